@@ -1,0 +1,146 @@
+-- A geometry: what it has class by class, when it is well made, and the limits that it keeps.
+--
+-- A geometry has one detail element, points, and primitives with their vertices. Each class has heads (attributes: a name and a kind) and
+-- groups, each element a value for each head and a flag for each group. The first point head is the vector `P`. The detail has no group.
+-- Names of heads are distinct within their class, and so are names of groups.
+use Rattle.std.specs.Prelude.{◌≡◌, ℕ, ◌+◌, ◌<◌, ◌≤◌, nat_le, nat_lt, Bool, true, false, ◌&&◌, ◌||◌, ◌==◌, IsTrue, List, [], ◌∷◌, length, map, sum_by, All, Option, None, Some, slice_get, codes, not}
+use Rattle.std.specs.List.{list_all, list_any}
+use Rattle.std.specs.Option.{option_and_then}
+use Rattle.std.specs.Str.{bytes_eq}
+use Rattle.sop_model.specs.declared.class.Class.{Class}
+use Rattle.sop_model.specs.declared.class.Class.TheVariants.{Detail, Prim, Point, Vertex}
+use Rattle.sop_model.specs.declared.geo.Geo.{Geo}
+use Rattle.sop_model.specs.declared.geo.Row.{Row}
+use Rattle.sop_model.specs.declared.geo.Head.{Head}
+use Rattle.sop_model.specs.declared.geo.HeadSet.{HeadSet}
+use Rattle.sop_model.specs.declared.geo.Primitive.{Primitive}
+use Rattle.sop_model.specs.declared.value.Kind.TheVariants as kind
+use Rattle.sop_model.specs.declared.value.Value.{Value}
+use Rattle.sop_model.specs.Values.{kind_of, weight_of}
+use Rattle.sop_model.specs.Vertices.{size_of, corners_of}
+
+abbrev pub empty_row : Row
+empty_row = record { values = []; flags = [] }
+
+abbrev pub no_heads : HeadSet
+no_heads = record { heads = []; groups = [] }
+
+abbrev pub position_head : Head
+position_head = record { name = codes "P"; kind = kind.Vector }
+
+abbrev pub only_position : HeadSet
+only_position = record { heads = position_head ∷ []; groups = [] }
+
+-- no element but the detail, and the point head `P` alone
+abbrev pub empty_geo : Geo
+empty_geo = record { detail = no_heads; prim = no_heads; point = only_position; vertex = no_heads; points = []; prims = []; detail_row = empty_row }
+
+-- the heads and groups of a class
+abbrev pub heads_of : Geo → Class → HeadSet
+heads_of g Detail = g.detail
+heads_of g Prim = g.prim
+heads_of g Point = g.point
+heads_of g Vertex = g.vertex
+
+-- the rows of a class, in the order of its elements
+abbrev pub rows_of : Geo → Class → List Row
+rows_of g Detail = g.detail_row ∷ []
+rows_of g Prim = map (λ p. p.row) g.prims
+rows_of g Point = g.points
+rows_of g Vertex = map (λ c. c.row) (corners_of g.prims)
+
+-- how many elements a class has
+abbrev pub count_of : Geo → Class → ℕ
+count_of g class = length (rows_of g class)
+
+-- the value of a head at an element
+abbrev pub value_at : Geo → Class → ℕ → ℕ → Option Value
+value_at g class head element = option_and_then (λ row. slice_get row.values head) (slice_get (rows_of g class) element)
+
+-- whether an element is in a group
+abbrev pub flag_at : Geo → Class → ℕ → ℕ → Option Bool
+flag_at g class group element = option_and_then (λ row. slice_get row.flags group) (slice_get (rows_of g class) element)
+
+abbrev pub is_letter : ℕ → Bool
+is_letter b = (nat_le 65 b && nat_le b 90) || (nat_le 97 b && nat_le b 122)
+
+abbrev pub is_digit_byte : ℕ → Bool
+is_digit_byte b = nat_le 48 b && nat_le b 57
+
+abbrev pub starts_name : ℕ → Bool
+starts_name b = is_letter b || (b == 95)
+
+abbrev pub continues_name : ℕ → Bool
+continues_name b = starts_name b || is_digit_byte b
+
+-- a letter or `_`, then letters, digits or `_`, 1 to 64 bytes
+abbrev pub is_name : List ℕ → Bool
+is_name [] = false
+is_name (b ∷ bytes) = starts_name b && list_all continues_name bytes && nat_le (length bytes) 63
+
+-- no name stands twice
+abbrev pub are_distinct : List (List ℕ) → Bool
+are_distinct [] = true
+are_distinct (name ∷ names) = not (list_any (bytes_eq name) names) && are_distinct names
+
+-- names of heads and of groups are names, each distinct
+pub record IsNamed (set : HeadSet) : Type 0 where
+  pub heads : IsTrue (list_all is_name (map (λ h. h.name) set.heads))
+  pub groups : IsTrue (list_all is_name set.groups)
+  pub distinct_heads : IsTrue (are_distinct (map (λ h. h.name) set.heads))
+  pub distinct_groups : IsTrue (are_distinct set.groups)
+
+-- a value of its kind for each head, and a flag for each group
+pub record IsRowOf (set : HeadSet) (row : Row) : Type 0 where
+  pub kinds : map kind_of row.values ≡ map (λ h. h.kind) set.heads
+  pub flags : length row.flags ≡ length set.groups
+
+-- the vector `P` is the first head
+abbrev pub BeginsWithPosition : List Head → Type 0
+BeginsWithPosition [] = false ≡ true
+BeginsWithPosition (h ∷ heads) = h ≡ position_head
+
+-- all but that a primitive may have no vertex
+pub record IsSound (g : Geo) : Type 0 where
+  pub detail_groups : g.detail.groups ≡ []
+  pub named : (class : Class) → IsNamed (heads_of g class)
+  pub rows : (class : Class) → All (IsRowOf (heads_of g class)) (rows_of g class)
+  pub position : BeginsWithPosition g.point.heads
+  pub points : All (λ c. c.point < length g.points) (corners_of g.prims)
+
+-- a well made geometry
+pub record IsGood (g : Geo) : Type 0 where
+  pub sound : IsSound g
+  pub corners : All (λ p. 0 < size_of p) g.prims
+
+-- at most so many elements, heads and groups
+pub record IsWithin (g : Geo) : Type 0 where
+  pub points : length g.points ≤ 1000000
+  pub prims : length g.prims ≤ 1000000
+  pub vertices : length (corners_of g.prims) ≤ 4000000
+  pub heads : (class : Class) → length (heads_of g class).heads ≤ 64
+  pub groups : (class : Class) → length (heads_of g class).groups ≤ 256
+
+abbrev pub row_weight : Row → ℕ
+row_weight row = sum_by weight_of row.values
+
+-- the sum over all values of all elements
+abbrev pub geo_weight : Geo → ℕ
+geo_weight g = sum_by row_weight (rows_of g Detail) + sum_by row_weight (rows_of g Prim) + sum_by row_weight (rows_of g Point) + sum_by row_weight (rows_of g Vertex)
+
+-- within every limit of a geometry
+pub record Fits (g : Geo) : Type 0 where
+  pub within : IsWithin g
+  pub weight : geo_weight g ≤ 40000000
+
+-- the point head `P` alone, and no group
+pub record HasOnlyPosition (g : Geo) : Type 0 where
+  pub detail : g.detail ≡ no_heads
+  pub prim : g.prim ≡ no_heads
+  pub point : g.point ≡ only_position
+  pub vertex : g.vertex ≡ no_heads
+
+-- what a view may be read of
+pub record IsReadable (g : Geo) : Type 0 where
+  pub sound : IsSound g
+  pub within : IsWithin g

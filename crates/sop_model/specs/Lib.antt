@@ -1,0 +1,4 @@
+pub mod Values
+pub mod Vertices
+pub mod Geometry
+pub mod Merge

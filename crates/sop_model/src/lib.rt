@@ -1,0 +1,15 @@
+//! Values, geometries as rows, and the view through which every geometry is read.
+#![tactic(auto)]
+
+pub mod class;
+pub mod geo;
+pub mod primitives;
+pub mod rows;
+pub mod value;
+pub mod view;
+
+pub use class::Class;
+pub use geo::{Corner, CornerList, FlagList, Geo, Head, HeadList, HeadSet, Prim, Primitive, Row, RowList, ValueList};
+pub use primitives::PrimList;
+pub use value::{IntList, Kind, RealList, Value, ValueRef, VectorList};
+pub use view::{GeoView, Inputs};
