@@ -3,7 +3,7 @@ use Rattle.std.proofs.Common.{◌≡◌, ℕ, ◌+◌, ◌-◌, ◌*◌, ◌/◌
 use Rattle.std.proofs.lemmas.Nat.{pow-add, div-mul-add}
 use Rattle.std.proofs.lemmas.Grind.{common_steps}
 use Rattle.std.proofs.Math.Nat.{one-le-pow, pow-succ', mul-le-mul_right, mul-le-mul_left, mul-div-mul_right}
-use Rattle.std.proofs.Common.{inl, inr, drop-cons, add-one, get_or, min, if◌then◌else◌, nat_le}
+use Rattle.std.proofs.Common.{◌⊎◌, inl, inr, drop-cons, add-one, get_or, min, if◌then◌else◌, nat_le}
 use Rattle.std.proofs.lemmas.Bool.{cases_lt}
 use Rattle.std.specs.List.{list_all}
 use Rattle.std.proofs.lemmas.List.{take-append-drop, length-drop}
@@ -210,3 +210,36 @@ whole_raised digits up down cap a b h first second =
     let c : min (min (number_of digits) cap * 10 ^ (up - down) + 0) cap ≡ min (number_of digits * 10 ^ (up - down) + 0) cap = capped_on (number_of digits) (10 ^ (up - down)) 0 cap one in
     second ∙ ap (λ x. min (x * 10 ^ (up - down)) cap) first ∙ (let z : min (min (number_of digits) cap * 10 ^ (up - down)) cap ≡ min (min (number_of digits) cap * 10 ^ (up - down) + 0) cap = ap (λ x. min x cap) (omega arith) in z)
     ∙ c ∙ ap (λ x. min x cap) (let y : number_of digits * 10 ^ (up - down) + 0 ≡ nearest (number_of digits * 10 ^ up) (10 ^ down) = omega (arith, nearest_whole (number_of digits) up down h) in y)
+
+-- a number that is raised beyond the cap
+pub nearest_far_up : (n up down cap k : ℕ) → 0 < n → down + k ≤ up → cap ≤ 10 ^ k → min (nearest (n * 10 ^ up) (10 ^ down)) cap ≡ cap
+nearest_far_up n up down cap k some far least =
+    let more : 10 ^ k ≤ 10 ^ (up - down) = pow-le-pow_right (omega arith) (omega arith) in
+    let factor : 1 * 10 ^ (up - down) ≤ n * 10 ^ (up - down) = mul-le-mul_right (10 ^ (up - down)) some in
+    omega (arith, nearest_whole n up down (omega arith), more, factor, least)
+
+-- a number that is lowered beyond its digits
+pub nearest_far_down : (digits : List ℕ) (up down : ℕ) → up + length digits < down → list_all is_ascii_digit digits ≡ true → nearest (number_of digits * 10 ^ up) (10 ^ down) ≡ 0
+nearest_far_down digits up down far all = nearest_less (number_of digits) up down (omega arith) ∙ nearest_none digits (down - up) (omega arith) all
+
+nearest_zero : (n up down : ℕ) → n ≡ 0 → nearest (n * 10 ^ up) (10 ^ down) ≡ 0
+nearest_zero n up down h = ap (λ m. nearest (m * 10 ^ up) (10 ^ down)) h ∙ ap (λ m. nearest m (10 ^ down)) (let z : 0 * 10 ^ up ≡ 0 * 10 ^ down + 0 = omega arith in z) ∙ half_down 0 0 (10 ^ down) (one-le-pow down 10 (omega arith))
+
+-- places beyond `far` change nothing more, for a text that is shorter
+pub places_capped : (digits : List ℕ) (fraction up down far cap : ℕ) → list_all is_ascii_digit digits ≡ true → fraction ≤ length digits → (up ≡ 0) ⊎ (down ≡ 0) → length digits + 32 ≤ far → cap ≤ 10 ^ 16
+    → min (nearest (number_of digits * 10 ^ (6 + min up far)) (10 ^ (fraction + min down far))) cap ≡ min (nearest (number_of digits * 10 ^ (6 + up)) (10 ^ (fraction + down))) cap
+places_capped digits fraction up down far cap all within one room small =
+    let scale : ℕ → ℕ → ℕ = λ u d. min (nearest (number_of digits * 10 ^ (6 + u)) (10 ^ (fraction + d))) cap in
+    elim (cases_lt 0 (number_of digits)) [
+      | inr none ↦ ap (λ n. min n cap) (nearest_zero (number_of digits) (6 + min up far) (fraction + min down far) (omega (arith, none)) ∙ sym (nearest_zero (number_of digits) (6 + up) (fraction + down) (omega (arith, none))))
+      | inl some ↦ elim one [
+        | inl no_up ↦ elim (cases_lt far down) [
+          | inl beyond ↦ ap (λ n. min n cap) (nearest_far_down digits (6 + min up far) (fraction + min down far) (omega arith) all ∙ sym (nearest_far_down digits (6 + up) (fraction + down) (omega arith) all))
+          | inr near ↦ ap (λ u. scale u (min down far)) (let u : min up far ≡ up = omega arith in u) ∙ ap (scale up) (let d : min down far ≡ down = omega arith in d)
+          ]
+        | inr no_down ↦ elim (cases_lt far up) [
+          | inl beyond ↦ nearest_far_up (number_of digits) (6 + min up far) (fraction + min down far) cap 16 some (omega arith) small ∙ sym (nearest_far_up (number_of digits) (6 + up) (fraction + down) cap 16 some (omega arith) small)
+          | inr near ↦ ap (λ u. scale u (min down far)) (let u : min up far ≡ up = omega arith in u) ∙ ap (scale up) (let d : min down far ≡ down = omega arith in d)
+          ]
+        ]
+    ]

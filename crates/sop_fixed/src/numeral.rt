@@ -1,9 +1,9 @@
 //! Numerals: decimal texts of numbers, read and printed.
-ghost use Rattle.std.specs.Prelude.{◌≡◌, ◌++◌, ◌<◌, length, min, OnOk, OnErr, is_some, position};
+ghost use Rattle.std.specs.Prelude.{◌≡◌, ◌++◌, ◌<◌, ◌≤◌, ◌||◌, not, length, min, OnOk, OnErr, is_some, position};
 ghost use Rattle.std.specs.List.{list_all, before_first, after_first};
 ghost use Rattle.std.specs.Char.{is_ascii_digit};
 ghost use Rattle.sop_fixed.specs.Numbers.{signed};
-ghost use Rattle.sop_fixed.specs.Numerals.{has_minus, after_sign, whole_of, fraction_of, is_some_digits, is_point, is_exponent_mark, places_up, places_down, in_range, value_of, decimal_of, without_last_zeros};
+ghost use Rattle.sop_fixed.specs.Numerals.{has_minus, after_sign, whole_of, fraction_of, is_some_digits, is_point, is_exponent_mark, places_up, places_down, in_range, value_of, decimal_of, sign_text, six_digits, without_last_zeros, fraction_text};
 
 use crate::digits::{number_within, scaled};
 use crate::fault::NumeralFault;
@@ -24,7 +24,7 @@ pub fn read_numeral(text: &[u8]) -> Result<Real, NumeralFault>
     let (negative, unsigned) = split_sign(text);
     let (mantissa, exponent, is_marked) = split_exponent(unsigned);
     let (whole, fraction) = split_point(mantissa);
-    if !is_mantissa(whole, fraction) || (is_marked && !is_exponent(exponent)) {
+    if !is_mantissa(whole, fraction) || !is_exponent(is_marked, exponent) {
         return Err(NumeralFault::NotNumeral);
     }
     let (up, down) = places(exponent);
@@ -84,11 +84,12 @@ fn is_mantissa(whole: &[u8], fraction: &[u8]) -> bool
     whole.len() + fraction.len() > 0 && all_digits(whole) && all_digits(fraction)
 }
 
-fn is_exponent(exponent: &[u8]) -> bool
-    ensures { result ≡ is_some_digits (after_sign exponent.now) }
+/// Whether a numeral may have this exponent behind its mark, or no mark.
+fn is_exponent(is_marked: bool, exponent: &[u8]) -> bool
+    ensures { result ≡ (not is_marked || is_some_digits (after_sign exponent.now)) }
 {
     let (_, digits) = split_sign(exponent);
-    !digits.is_empty() && all_digits(digits)
+    !is_marked || (!digits.is_empty() && all_digits(digits))
 }
 
 fn all_digits(text: &[u8]) -> bool
@@ -121,18 +122,41 @@ pub fn print(x: Real, to: &mut Vec<u8>) -> Result<(), AllocError>
     ensures err { OnErr result (to.new.items ≡ to.old.items) }
 {
     let size = x.size();
+    let sign = sign_text(x.is_negative());
     let mut buffer = Buffer::new();
     let whole = buffer.format(size / 1_000_000).as_bytes();
-    let mut places = *b"000000";
-    write_digits(size % 1_000_000, &mut places, 6);
+    let places = six_digits(size % 1_000_000);
     let fraction = without_last_zeros(&places);
-    let sign: &[u8] = if x.is_negative() { b"-" } else { b"" };
-    let point: &[u8] = if fraction.is_empty() { b"" } else { b"." };
+    let point = point_before(fraction);
     to.reserve(sign.len() + whole.len() + point.len() + fraction.len())?;
     to.extend_from_slice(sign)?;
     to.extend_from_slice(whole)?;
     to.extend_from_slice(point)?;
     to.extend_from_slice(fraction)
+}
+
+fn sign_text(negative: bool) -> &'static [u8]
+    ensures value { result.now ≡ sign_text negative }
+    ensures short { length result.now ≤ 1 }
+{
+    if negative { b"-" } else { b"" }
+}
+
+/// The point that stands before the digits of a fraction, where there are any.
+fn point_before(fraction: &[u8]) -> &'static [u8]
+    ensures value { result.now ++ fraction.now ≡ fraction_text fraction.now }
+    ensures short { length result.now ≤ 1 }
+{
+    if fraction.is_empty() { b"" } else { b"." }
+}
+
+fn six_digits(n: u64) -> [u8; 6]
+    requires { n < 1000000 }
+    ensures { result ≡ six_digits n }
+{
+    let mut digits = *b"000000";
+    write_digits(n, &mut digits, 6);
+    digits
 }
 
 fn without_last_zeros(digits: &[u8]) -> &[u8]
