@@ -1,5 +1,5 @@
 //! Numerals: decimal texts of numbers, read and printed.
-ghost use Rattle.std.specs.Prelude.{◌≡◌, ◌++◌, ◌<◌, ◌≤◌, ◌||◌, not, length, min, OnOk, OnErr, is_some, position};
+ghost use Rattle.std.specs.Prelude.{◌≡◌, ◌++◌, ◌+◌, ◌^◌, ◌<◌, ◌≤◌, ◌||◌, not, length, min, OnOk, OnErr, is_some, position};
 ghost use Rattle.std.specs.List.{list_all, before_first, after_first};
 ghost use Rattle.std.specs.Char.{is_ascii_digit};
 ghost use Rattle.sop_fixed.specs.Numbers.{signed};
@@ -79,7 +79,8 @@ fn point_at(text: &[u8]) -> Option<usize>
 }
 
 fn is_mantissa(whole: &[u8], fraction: &[u8]) -> bool
-    ensures { result ≡ is_some_digits (whole.now ++ fraction.now) }
+    ensures value { result ≡ is_some_digits (whole.now ++ fraction.now) }
+    ensures bound { length whole.now + length fraction.now < 2 ^ 64 }
 {
     whole.len() + fraction.len() > 0 && all_digits(whole) && all_digits(fraction)
 }
