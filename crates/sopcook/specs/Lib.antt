@@ -1,0 +1,6 @@
+pub mod Network
+pub mod Script
+pub mod SerialCook
+pub mod Loads
+pub mod Answer
+pub mod Delivery
