@@ -2,5 +2,7 @@ pub mod Network
 pub mod Script
 pub mod SerialCook
 pub mod Loads
+pub mod Keeping
+pub mod PlainMerge
 pub mod Answer
 pub mod Delivery

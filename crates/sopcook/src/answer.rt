@@ -91,7 +91,7 @@ fn answer_node<F: Files>(alloc: Global, nodes: &[Node], x: usize, files: &mut F)
     ensures status { IfOk result (λ answer. (answer.status ≡ 0) ⊎ (answer.status ≡ 3)) }
 {
     let needs = load_needs(files, alloc, nodes, x)?;
-    match cook(alloc, nodes, x, needs) {
+    match cook(alloc, nodes, x, needs.uses, &needs.loaded) {
         Ok(geo) => Ok(written(alloc, &geo)?),
         Err(CookEnd::Fault(_)) => Ok(not_yet(alloc)?),
         Err(CookEnd::Memory) => Err(RunEnd::Memory),

@@ -1,13 +1,14 @@
 // The serial cook of a network whose wires come from earlier nodes. Each node that is needed is cooked once.
-ghost use Rattle.std.specs.Prelude.{◌≡◌, ◌<◌, ◌≤◌, ◌^◌, length, Err, Ok, IfOk, OnOk, Some, IsErr, slice_get};
+ghost use Rattle.std.specs.Prelude.{◌≡◌, ◌<◌, ◌≤◌, ◌^◌, length, Err, Ok, IfOk, OnOk, Some, IfSome, IsErr, slice_get};
 ghost use Rattle.sop_model.specs.declared.geo.Geo.{Geo};
-ghost use Rattle.sop_model.specs.Geometry.{IsReadable, HasOnlyPosition, IsGood, Fits};
+ghost use Rattle.sopcook.specs.declared.fault.Fault.{Fault};
 ghost use Rattle.sopcook.specs.Network.{IsOrdered};
-ghost use Rattle.sopcook.specs.SerialCook.{Outcome, cook_of, file_geo, then_with, gathered};
+ghost use Rattle.sopcook.specs.SerialCook.{Outcome, cook_of, file_geo, merge_outcome};
 ghost use Rattle.sopcook.specs.Loads.{kept_files};
-ghost use Rattle.sopcook.specs.Keeping.{IsKept, Tells};
+ghost use Rattle.sopcook.specs.Keeping.{IsKept, Tells, IsReady, AreNone};
 
 use crate::fault::{CookEnd, Fault};
+use crate::kept::Kept;
 use crate::loaded::{Loaded, LoadedFiles};
 use crate::merge::append;
 use crate::network::{Node, NodeType};
@@ -28,7 +29,8 @@ impl From<AllocError> for CookEnd {
 /// The geometry of a loaded file.
 fn read_file(alloc: Global, loaded: &LoadedFiles, name: &str) -> Result<Geo, CookEnd>
     ensures ok { IfOk result (λ geo. file_geo (kept_files loaded.now name.now) ≡ Ok geo) }
-    ensures fault { result ≡ Err (CookEnd.Fault Fault.NotYet) → IsErr (file_geo (kept_files loaded.now name.now)) }
+    ensures fault { (fault : Fault) → result ≡ Err (CookEnd.Fault fault) → IsErr (file_geo (kept_files loaded.now name.now)) }
+    ensures ready { IfOk result IsReady }
 {
     let Some(Loaded::Bytes(bytes)) = loaded.get(name) else {
         return Err(CookEnd::Fault(Fault::NotYet));
@@ -40,21 +42,21 @@ fn read_file(alloc: Global, loaded: &LoadedFiles, name: &str) -> Result<Geo, Coo
     }
 }
 
-/// What a cook keeps: how often each node is still used, and the geometries that are still used.
-#[derive(Debug, Drop)]
-struct Kept {
-    uses: Vec<u32>,
-    geos: Vec<Option<Geo>>,
-}
-
 /// The geometry of node x, which is kept where a later use is left.
 #[cycle(cook)]
-fn give(alloc: Global, nodes: &[Node], loaded: &LoadedFiles, x: usize, kept: &mut Kept) -> Result<Geo, CookEnd>
+fn give(
+    alloc: Global,
+    nodes: &[Node],
+    loaded: &LoadedFiles,
+    x: usize,
+    kept: &mut Kept,
+) -> Result<Geo, CookEnd>
     requires node { x < length nodes.now }
     requires ordered { IsOrdered nodes.now }
     requires kept { IsKept (cook_of (kept_files loaded.now) nodes.now) (length nodes.now) kept.old }
     ensures kept { IsKept (cook_of (kept_files loaded.now) nodes.now) (length nodes.now) kept.new }
     ensures tells { Tells (cook_of (kept_files loaded.now) nodes.now x) result }
+    ensures ready { IfOk result IsReady }
 {
     kept.uses[x] = kept.uses[x].saturating_sub(1);
     let geo = match kept.geos[x].take() {
@@ -65,19 +67,29 @@ fn give(alloc: Global, nodes: &[Node], loaded: &LoadedFiles, x: usize, kept: &mu
         },
     };
     if kept.uses[x] > 0 {
-        kept.geos[x] = Some(geo.copy(alloc)?);
+        match geo.copy(alloc) {
+            Ok(copy) => kept.geos[x] = Some(copy),
+            Err(_) => return Err(CookEnd::Memory),
+        }
     }
     Ok(geo)
 }
 
 /// Cooks node x.
 #[cycle(cook)]
-fn make(alloc: Global, nodes: &[Node], loaded: &LoadedFiles, x: usize, kept: &mut Kept) -> Result<Geo, CookEnd>
+fn make(
+    alloc: Global,
+    nodes: &[Node],
+    loaded: &LoadedFiles,
+    x: usize,
+    kept: &mut Kept,
+) -> Result<Geo, CookEnd>
     requires node { x < length nodes.now }
     requires ordered { IsOrdered nodes.now }
     requires kept { IsKept (cook_of (kept_files loaded.now) nodes.now) (length nodes.now) kept.old }
     ensures kept { IsKept (cook_of (kept_files loaded.now) nodes.now) (length nodes.now) kept.new }
     ensures tells { Tells (cook_of (kept_files loaded.now) nodes.now x) result }
+    ensures ready { IfOk result IsReady }
 {
     let node = &nodes[x];
     match node.kind {
@@ -88,22 +100,67 @@ fn make(alloc: Global, nodes: &[Node], loaded: &LoadedFiles, x: usize, kept: &mu
 
 /// The merge of the wired inputs of node x, by rising input number.
 #[cycle(cook)]
-fn merge_wired(alloc: Global, nodes: &[Node], loaded: &LoadedFiles, x: usize, kept: &mut Kept) -> Result<Geo, CookEnd>
+fn merge_wired(
+    alloc: Global,
+    nodes: &[Node],
+    loaded: &LoadedFiles,
+    x: usize,
+    kept: &mut Kept,
+) -> Result<Geo, CookEnd>
     requires node { x < length nodes.now }
     requires ordered { IsOrdered nodes.now }
     requires kept { IsKept (cook_of (kept_files loaded.now) nodes.now) (length nodes.now) kept.old }
     ensures kept { IsKept (cook_of (kept_files loaded.now) nodes.now) (length nodes.now) kept.new }
-    ensures tells { IsMerge }
+    ensures tells { IfSome (slice_get nodes.now x) (λ node. Tells (merge_outcome (cook_of (kept_files loaded.now) nodes.now) x node) result) }
+    ensures ready { IfOk result IsReady }
 {
-    let mut into = Geo::empty(alloc)?;
+    let mut into = match Geo::empty(alloc) {
+        Ok(geo) => geo,
+        Err(_) => return Err(CookEnd::Memory),
+    };
     for wire in &nodes[x].wires {
         if let Some(source) = wire {
             let geo = match give(alloc, nodes, loaded, *source as usize, kept) {
                 Ok(geo) => geo,
                 Err(end) => return Err(end),
             };
-            append(&mut into, geo)?;
+            match append(&mut into, geo) {
+                Ok(()) => {}
+                Err(end) => return Err(end),
+            }
         }
     }
     Ok(into)
+}
+
+/// Cooks node x, whose files were loaded, and each node that it needs once.
+pub fn cook(
+    alloc: Global,
+    nodes: &[Node],
+    x: usize,
+    uses: Vec<u32>,
+    loaded: &LoadedFiles,
+) -> Result<Geo, CookEnd>
+    requires node { x < length nodes.now }
+    requires ordered { IsOrdered nodes.now }
+    requires uses { length uses.items ≡ length nodes.now }
+    ensures tells { Tells (cook_of (kept_files loaded.now) nodes.now x) result }
+    ensures ready { IfOk result IsReady }
+{
+    let mut kept = Kept {
+        uses,
+        geos: no_geos(alloc, nodes.len())?,
+    };
+    give(alloc, nodes, loaded, x, &mut kept)
+}
+
+/// So many places without a geometry.
+fn no_geos(alloc: Global, count: usize) -> Result<Vec<Option<Geo>>, AllocError>
+    ensures { IfOk result (λ geos. AreNone count geos.items) }
+{
+    let mut geos = Vec::with_capacity(alloc, count)?;
+    for _ in 0..count {
+        geos.push(None)?;
+    }
+    Ok(geos)
 }

@@ -1,15 +1,22 @@
 // The merge of geometries that have the attribute `P` alone.
-ghost use Rattle.std.specs.Prelude.{◌≡◌, ◌<◌, ◌≤◌, ◌+◌, OnOk, IsTrue, ◌↔◌, length, map};
-ghost use Rattle.sop_model.specs.Vertices.{corners_of};
-ghost use Rattle.sop_model.specs.Geometry.{fits};
-ghost use Rattle.sopcook.specs.PlainMerge.{IsPlain, plain_append, shifted_corner, shifted_prim};
+ghost use Rattle.std.specs.Prelude.{◌≡◌, ◌<◌, ◌≤◌, ◌+◌, ◌++◌, ◌^◌, Err, OnOk, OnErr, IsTrue, All, length, map, sum_by, false};
+ghost use Rattle.sop_model.specs.Vertices.{corners_of, size_of};
+ghost use Rattle.sop_model.specs.Geometry.{fits, IsReadable};
+ghost use Rattle.sopcook.specs.Keeping.{IsReady};
+ghost use Rattle.sopcook.specs.PlainMerge.{plain_append, shifted_corner, shifted_prim};
 
-use sop_model::{Corner, CornerList, Geo, Prim, PrimList, RowList};
+use crate::fault::{CookEnd, Fault};
+use sop_model::{Class, CornerList, Geo, GeoView, Prim, PrimList};
 use std::alloc::AllocError;
 
-/// The corners, with each point behind so many others.
+/// The greatest numbers of points, primitives and vertices.
+const MOST_POINTS: u32 = 1_000_000;
+const MOST_PRIMS: u32 = 1_000_000;
+const MOST_VERTICES: u32 = 4_000_000;
+
+/// The vertices, with each point behind so many others.
 fn shift_corners(corners: CornerList, before: u32) -> CornerList
-    requires { All (λ c. c.point + before < 2 ^ 32) corners }
+    requires { All (λ c. before + c.point < 2 ^ 32) corners }
     ensures { result ≡ map (shifted_corner before) corners }
 {
     let mut corners = corners.into_vec();
@@ -17,4 +24,52 @@ fn shift_corners(corners: CornerList, before: u32) -> CornerList
         corner.point += before;
     }
     CornerList::from_vec(corners)
+}
+
+/// Puts primitives behind others, each of whose points stands behind so many others.
+fn append_prims(into: &mut PrimList, from: PrimList, before: u32) -> Result<(), AllocError>
+    requires { All (λ p. All (λ c. before + c.point < 2 ^ 32) p.corners) from }
+    ensures { OnOk result (into.new ≡ into.old ++ map (shifted_prim before) from) }
+{
+    for prim in from.into_vec() {
+        let shifted = Prim {
+            closed: prim.closed,
+            row: prim.row,
+            corners: shift_corners(prim.corners, before),
+        };
+        into.push(shifted).map_err(|refused| refused.1)?;
+    }
+    Ok(())
+}
+
+/// Whether the merge of two geometries has more elements than a geometry may have.
+fn is_over(into: &Geo, from: &Geo) -> bool
+    requires into { IsReadable into.now }
+    requires from { IsReadable from.now }
+    ensures { result ≡ (nat_lt 1000000 (length into.now.points + length from.now.points)
+        || nat_lt 1000000 (length into.now.prims + length from.now.prims)
+        || nat_lt 4000000 (length (corners_of into.now.prims) + length (corners_of from.now.prims))) }
+{
+    into.count(Class::Point) + from.count(Class::Point) > MOST_POINTS
+        || into.count(Class::Prim) + from.count(Class::Prim) > MOST_PRIMS
+        || into.count(Class::Vertex) + from.count(Class::Vertex) > MOST_VERTICES
+}
+
+/// Puts a geometry behind another.
+pub fn append(into: &mut Geo, from: Geo) -> Result<(), CookEnd>
+    requires into { IsReady into.old }
+    requires from { IsReady from }
+    ensures ok { OnOk result (into.new ≡ plain_append into.old from) }
+    ensures ready { OnOk result (IsReady into.new) }
+    ensures over { result ≡ Err (CookEnd.Fault Fault.NotYet) → fits (plain_append into.old from) ≡ false }
+{
+    if is_over(into, &from) {
+        return Err(CookEnd::Fault(Fault::NotYet));
+    }
+    let before = into.count(Class::Point);
+    for row in from.points.into_vec() {
+        into.points.add(row)?;
+    }
+    append_prims(&mut into.prims, from.prims, before)?;
+    Ok(())
 }

@@ -7,7 +7,7 @@ ghost use Rattle.sopcook.specs.Network.{number_of, IsOrdered};
 ghost use Rattle.sopcook.specs.Script.{script_lines, script_words, type_of_word, is_path, is_path_byte, input_of_word, added, with_file, with_wire, after_line, after_lines, after_end, network_of};
 
 use crate::network::{Node, NodeType, find};
-use sop_outside::text::Text;
+use sop_outside::Text;
 use std::alloc::{AllocError, Global};
 
 /// Why a script gives no network.
@@ -119,7 +119,8 @@ fn add_node(alloc: Global, nodes: &mut Vec<Node>, kind: Option<NodeType>, name: 
     let Some(name) = ascii_text(name) else {
         return Err(ScriptEnd::NotYet);
     };
-    nodes.push(Node::new(alloc, kind, name)?)?;
+    let node = Node::new(alloc, kind, name)?;
+    nodes.push(node).map_err(AllocError::from)?;
     Ok(())
 }
 

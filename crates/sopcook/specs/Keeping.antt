@@ -1,0 +1,31 @@
+-- What a cook keeps of finished nodes, and what it tells.
+use Rattle.std.specs.Prelude.{◌≡◌, ℕ, List, Option, Some, Result, Ok, Err, IsErr, length, slice_get}
+use Rattle.sop_model.specs.declared.geo.Geo.{Geo}
+use Rattle.sop_model.specs.Geometry.{IsGood, Fits, HasOnlyPosition}
+use Rattle.sopcook.specs.declared.fault.CookEnd.{CookEnd}
+use Rattle.sopcook.specs.declared.fault.CookEnd.TheVariants.{Fault, Memory}
+use Rattle.sopcook.specs.declared.kept.Kept.{Kept}
+use Rattle.sopcook.specs.SerialCook.{Outcome}
+
+-- a well made geometry within its limits that has `P` alone
+pub record IsReady (g : Geo) : Type 0 where
+  pub good : IsGood g
+  pub fits : Fits g
+  pub position : HasOnlyPosition g
+
+-- the code answers a geometry only where the node gives that one, and a fault only where it gives a fault
+abbrev pub Tells : Outcome → Result Geo CookEnd → Type 0
+Tells outcome (Ok g) = outcome ≡ Ok g
+Tells outcome (Err (Fault fault)) = IsErr outcome
+Tells outcome (Err Memory) = Unit {0}
+
+-- each kept geometry is what its node gives
+pub record IsKept (cook : ℕ → Outcome) (nodes : ℕ) (kept : Kept) : Type 0 where
+  pub uses : length kept.uses.items ≡ nodes
+  pub places : length kept.geos.items ≡ nodes
+  pub geos : (x : ℕ) (g : Geo) → slice_get kept.geos.items x ≡ Some (Some g) → (cook x ≡ Ok g) × IsReady g
+
+-- so many places, and none has a geometry
+pub record AreNone (count : ℕ) (geos : List (Option Geo)) : Type 0 where
+  pub places : length geos ≡ count
+  pub none : (x : ℕ) (g : Geo) → slice_get geos x ≡ Some (Some g) → ⊥
