@@ -1,7 +1,7 @@
 -- What a number prints as reads back as that number.
 use Rattle.std.proofs.Common.{◌≡◌, ℕ, ◌+◌, ◌-◌, ◌*◌, ◌/◌, ◌%◌, ◌^◌, ◌≤◌, ◌<◌, min, List, None, is_some, position, [], ◌∷◌, ◌++◌, length, length-append, append_assoc, append-nil, take, drop, replicate, reverse, get_or, ap, sym, ◌∙◌, arith, rules, Bool, true, false, not, ◌&&◌, ◌||◌, ◌==◌, inl, inr, if◌then◌else◌, refl, suc, zero, decimal, ℤ, pos, negsuc, unsigned_abs, Ok, Err, nat_le, nat_lt, subst}
 use Rattle.std.proofs.lemmas.Nat.{pow-add}
-use Rattle.std.proofs.lemmas.Bool.{cases_lt}
+use Rattle.std.proofs.lemmas.Bool.{and_from, and_parts}
 use Rattle.std.proofs.lemmas.Grind.{common_steps}
 use Rattle.std.proofs.lemmas.Fmt.{digits_decimal, digits_value-decimal, decimal_nonempty, length-decimal-le}
 use Rattle.std.proofs.lemmas.Str.Parse.{IsNumeralModel, numerals_by_weight}
@@ -16,9 +16,6 @@ use Rattle.sop_fixed.specs.Numerals.{number_of, is_sign, is_point, is_exponent_m
 use Rattle.sop_fixed.specs.declared.fault.NumeralFault.TheVariants.{OutOfRange}
 use Rattle.sop_fixed.proofs.Rounding.{number_of-append, nearest_whole}
 use Rattle.sop_fixed.proofs.Reading.{value_of_parts}
-
-all_digits : List ℕ → Bool
-all_digits = list_all is_ascii_digit
 
 own : IsNumeralModel (λ ds. list_all is_ascii_digit ds ≡ true) number_of
 own = numerals_by_weight _ (search rules) number_of (search rules)
@@ -53,15 +50,6 @@ zero_behind xs j behind within =
     let e : get_or (reverse xs) (length xs - 1 - j) 0 ≡ get_or xs j 0 = get_or-reverse xs (length xs - 1 - j) 0 (omega arith) ∙ ap (λ k. get_or xs k 0) (omega arith) in
     ap is_zero_digit (sym e) ∙ prefix_len_passes is_zero_digit (reverse xs) (length xs - 1 - j) 0 back
 
-and_both : (a b : Bool) → a ≡ true → b ≡ true → a && b ≡ true
-and_both a b h l = grind (arith, common_steps)
-
-and_left : (a b : Bool) → a && b ≡ true → a ≡ true
-and_left a b h = grind (arith, common_steps)
-
-and_right : (a b : Bool) → a && b ≡ true → b ≡ true
-and_right a b h = grind (arith, common_steps)
-
 -- the zeros at the end, cut and put back
 number_of-without_last_zeros : (xs : List ℕ) → number_of xs ≡ number_of (without_last_zeros xs) * 10 ^ (length xs - length (without_last_zeros xs))
 number_of-without_last_zeros xs =
@@ -77,7 +65,7 @@ number_of-without_last_zeros xs =
 digits_of-without_last_zeros : (xs : List ℕ) → list_all is_ascii_digit xs ≡ true → list_all is_ascii_digit (without_last_zeros xs) ≡ true
 digits_of-without_last_zeros xs h =
     let kept = length xs - suffix_len is_zero_digit xs in
-    and_left _ (list_all is_ascii_digit (drop kept xs)) (sym (list_all-append is_ascii_digit (take kept xs) (drop kept xs)) ∙ ap (list_all is_ascii_digit) (take-append-drop kept xs) ∙ h)
+    (and_parts _ (list_all is_ascii_digit (drop kept xs)) (sym (list_all-append is_ascii_digit (take kept xs) (drop kept xs)) ∙ ap (list_all is_ascii_digit) (take-append-drop kept xs) ∙ h)).0
 
 -- the six digits of a fraction
 
@@ -93,29 +81,29 @@ number_of-six_digits n h =
     ∙ (let z : 0 * 10 ^ length (decimal n) + number_of (decimal n) ≡ n = omega (arith, number_of-decimal n (omega arith)) in z)
 
 digits_of-six_digits : (n : ℕ) → n < 1000000 → list_all is_ascii_digit (six_digits n) ≡ true
-digits_of-six_digits n h = list_all-append is_ascii_digit (replicate (6 - length (decimal n)) 48) (decimal n) ∙ and_both _ _ (digits_of_replicate (6 - length (decimal n))) (digits-decimal n (omega arith))
+digits_of-six_digits n h = list_all-append is_ascii_digit (replicate (6 - length (decimal n)) 48) (decimal n) ∙ and_from _ _ (digits_of_replicate (6 - length (decimal n))) (digits-decimal n (omega arith))
 
 some_digits : (units places : List ℕ) → 0 < length units → list_all is_ascii_digit units ≡ true → list_all is_ascii_digit places ≡ true → is_some_digits (units ++ places) ≡ true
 some_digits units places some u p =
-    and_both _ _ (let z : nat_lt 0 (length (units ++ places)) ≡ true = grind (arith, length-append units places) in z) (list_all-append is_ascii_digit units places ∙ and_both _ _ u p)
+    and_from _ _ (let z : nat_lt 0 (length (units ++ places)) ≡ true = grind (arith, length-append units places) in z) (list_all-append is_ascii_digit units places ∙ and_from _ _ u p)
 
 -- where a text has no byte that passes
 
 weaker : (p q : ℕ → Bool) → ((b : ℕ) → p b ≡ true → q b ≡ true) → (xs : List ℕ) → list_all p xs ≡ true → list_all q xs ≡ true
 weaker p q more [] h = refl
-weaker p q more (x ∷ xs) h = and_both (q x) (list_all q xs) (more x (and_left (p x) (list_all p xs) h)) (weaker p q more xs (and_right (p x) (list_all p xs) h))
+weaker p q more (x ∷ xs) h = and_from (q x) (list_all q xs) (more x (and_parts (p x) (list_all p xs) h).0) (weaker p q more xs (and_parts (p x) (list_all p xs) h).1)
 
 prefix_len_all : (p : ℕ → Bool) (xs : List ℕ) → list_all p xs ≡ true → prefix_len p xs ≡ length xs
 prefix_len_all p [] h = refl
 prefix_len_all p (x ∷ xs) h =
-    let rest : prefix_len p xs ≡ length xs = prefix_len_all p xs (and_right (p x) (list_all p xs) h) in
-    ap (λ b. if b then 1 + prefix_len p xs else 0) (and_left (p x) (list_all p xs) h) ∙ omega (arith, rest)
+    let rest : prefix_len p xs ≡ length xs = prefix_len_all p xs (and_parts (p x) (list_all p xs) h).1 in
+    ap (λ b. if b then 1 + prefix_len p xs else 0) (and_parts (p x) (list_all p xs) h).0 ∙ omega (arith, rest)
 
 prefix_len_seam : (p : ℕ → Bool) (xs : List ℕ) (b : ℕ) (ys : List ℕ) → list_all p xs ≡ true → p b ≡ false → prefix_len p (xs ++ b ∷ ys) ≡ length xs
 prefix_len_seam p [] b ys h fails = ap (λ c. if c then 1 + prefix_len p ys else 0) fails
 prefix_len_seam p (x ∷ xs) b ys h fails =
-    let rest : prefix_len p (xs ++ b ∷ ys) ≡ length xs = prefix_len_seam p xs b ys (and_right (p x) (list_all p xs) h) fails in
-    ap (λ c. if c then 1 + prefix_len p (xs ++ b ∷ ys) else 0) (and_left (p x) (list_all p xs) h) ∙ omega (arith, rest)
+    let rest : prefix_len p (xs ++ b ∷ ys) ≡ length xs = prefix_len_seam p xs b ys (and_parts (p x) (list_all p xs) h).1 fails in
+    ap (λ c. if c then 1 + prefix_len p (xs ++ b ∷ ys) else 0) (and_parts (p x) (list_all p xs) h).0 ∙ omega (arith, rest)
 
 digit_no_mark : (b : ℕ) → is_ascii_digit b ≡ true → not (is_exponent_mark b) ≡ true
 digit_no_mark b h = grind (arith, common_steps)
@@ -132,8 +120,8 @@ digit_no_minus b h = grind (arith, common_steps)
 -- the parts of a printed text: digits of the units, and digits behind a point or nothing
 
 no_mark : (units places : List ℕ) → list_all is_ascii_digit units ≡ true → list_all is_ascii_digit places ≡ true → list_all (λ b. not (is_exponent_mark b)) (units ++ fraction_text places) ≡ true
-no_mark units [] u p = list_all-append (λ b. not (is_exponent_mark b)) units [] ∙ and_both _ _ (weaker is_ascii_digit _ digit_no_mark units u) refl
-no_mark units (d ∷ ds) u p = list_all-append (λ b. not (is_exponent_mark b)) units (46 ∷ d ∷ ds) ∙ and_both _ _ (weaker is_ascii_digit _ digit_no_mark units u) (weaker is_ascii_digit _ digit_no_mark (d ∷ ds) p)
+no_mark units [] u p = list_all-append (λ b. not (is_exponent_mark b)) units [] ∙ and_from _ _ (weaker is_ascii_digit _ digit_no_mark units u) refl
+no_mark units (d ∷ ds) u p = list_all-append (λ b. not (is_exponent_mark b)) units (46 ∷ d ∷ ds) ∙ and_from _ _ (weaker is_ascii_digit _ digit_no_mark units u) (weaker is_ascii_digit _ digit_no_mark (d ∷ ds) p)
 
 mantissa-printed : (xs : List ℕ) → list_all (λ b. not (is_exponent_mark b)) xs ≡ true → before_first is_exponent_mark xs ≡ xs
 mantissa-printed xs h = ap (λ n. take n xs) (prefix_len_all (λ b. not (is_exponent_mark b)) xs h) ∙ take-length xs
@@ -160,12 +148,12 @@ fraction-printed units (d ∷ ds) u =
 after_sign-printed : (negative : Bool) (units rest : List ℕ) → 0 < length units → list_all is_ascii_digit units ≡ true → after_sign (sign_text negative ++ units ++ rest) ≡ units ++ rest
 after_sign-printed true units rest some h = refl
 after_sign-printed false [] rest some h = absurd (omega arith)
-after_sign-printed false (d ∷ ds) rest some h = ap (λ b. if b then ds ++ rest else d ∷ (ds ++ rest)) (digit_no_sign d (and_left (is_ascii_digit d) (list_all is_ascii_digit ds) h))
+after_sign-printed false (d ∷ ds) rest some h = ap (λ b. if b then ds ++ rest else d ∷ (ds ++ rest)) (digit_no_sign d (and_parts (is_ascii_digit d) (list_all is_ascii_digit ds) h).0)
 
 has_minus-printed : (negative : Bool) (units rest : List ℕ) → 0 < length units → list_all is_ascii_digit units ≡ true → has_minus (sign_text negative ++ units ++ rest) ≡ negative
 has_minus-printed true units rest some h = refl
 has_minus-printed false [] rest some h = absurd (omega arith)
-has_minus-printed false (d ∷ ds) rest some h = digit_no_minus d (and_left (is_ascii_digit d) (list_all is_ascii_digit ds) h)
+has_minus-printed false (d ∷ ds) rest some h = digit_no_minus d (and_parts (is_ascii_digit d) (list_all is_ascii_digit ds) h).0
 
 size-printed : (units places : List ℕ) (whole fraction : ℕ) → number_of units ≡ whole → length places ≤ 6 → fraction ≡ number_of places * 10 ^ (6 - length places)
     → nearest (number_of (units ++ places) * 10 ^ (6 + 0)) (10 ^ (length places + 0)) ≡ whole * 1000000 + fraction
