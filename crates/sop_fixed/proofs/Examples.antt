@@ -1,5 +1,6 @@
 -- Worked examples: what the definitions say of texts and numbers, by computation.
 use Rattle.std.specs.Prelude.{◌≡◌, refl, ℤ, pos, negsuc, Ok, Err, codes, List, ℕ, Result}
+use Rattle.std.specs.Fmt.{digits}
 use Rattle.sop_fixed.specs.Numbers.{nearest, real_of, int_of}
 use Rattle.sop_fixed.specs.Numerals.{value_of, decimal_of}
 use Rattle.sop_fixed.specs.declared.fault.NumeralFault.{NumeralFault}
@@ -83,24 +84,31 @@ form_before_range : value_of (codes "1e10x") ≡ Err NotNumeral
 form_before_range = refl
 
 half : decimal_of (pos 500000) ≡ codes "0.5"
+unfolding digits
 half = refl
 
 one_millionth_below : decimal_of (negsuc 0) ≡ codes "-0.000001"
+unfolding digits
 one_millionth_below = refl
 
 nothing : decimal_of (pos 0) ≡ codes "0"
+unfolding digits
 nothing = refl
 
 whole : decimal_of (pos 120000000) ≡ codes "120"
+unfolding digits
 whole = refl
 
 zeros_inside : decimal_of (negsuc 10020299999) ≡ codes "-10020.3"
+unfolding digits
 zeros_inside = refl
 
 zero_within : decimal_of (pos 1050000) ≡ codes "1.05"
+unfolding digits
 zero_within = refl
 
 last : decimal_of (pos 1000000000000000) ≡ codes "1000000000"
+unfolding digits
 last = refl
 
 greatest_int : int_of (pos 2147483647) ≡ Ok (pos 2147483647)

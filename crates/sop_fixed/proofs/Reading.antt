@@ -1,6 +1,6 @@
 -- Why a numeral that is read with a cap on its size, and on its exponent, says the same number.
 use Rattle.std.proofs.Common.{◌≡◌, ℕ, ◌+◌, ◌*◌, ◌^◌, ◌≤◌, ◌<◌, List, ◌++◌, length, length-append, min, ap, sym, ◌∙◌, arith, Bool, true, false, not, ◌&&◌, ◌||◌, ◌⊎◌, inl, inr, if◌then◌else◌, refl, nat_le, unsigned_abs, Ok, Err}
-use Rattle.std.proofs.lemmas.Bool.{cases_lt}
+use Rattle.std.proofs.lemmas.Bool.{cases_lt, and_from, and_parts}
 use Rattle.std.proofs.lemmas.Grind.{common_steps}
 use Rattle.std.specs.List.{list_all}
 use Rattle.std.specs.Char.{is_ascii_digit}
@@ -8,12 +8,6 @@ use Rattle.sop_fixed.specs.Numbers.{signed, nearest, largest_size, is_real}
 use Rattle.sop_fixed.specs.Numerals.{number_of, is_some_digits, places_up, places_down, has_minus, after_sign, size_of, whole_of, fraction_of, digits_of, in_range, value_of, mantissa_of, exponent_of, has_exponent, is_numeral, rounded_of}
 use Rattle.sop_fixed.specs.declared.fault.NumeralFault.TheVariants.{NotNumeral, OutOfRange}
 use Rattle.sop_fixed.proofs.Rounding.{places_capped}
-
-and_right : (a b : Bool) → a && b ≡ true → b ≡ true
-and_right a b h = grind (arith, common_steps)
-
-and_both : (a b : Bool) → a ≡ true → b ≡ true → a && b ≡ true
-and_both a b h l = grind (arith, common_steps)
 
 pub unsigned_abs-signed : (negative : Bool) (size : ℕ) → unsigned_abs (signed negative size) ≡ size
 unsigned_abs-signed true size = grind (arith, common_steps)
@@ -56,13 +50,13 @@ pub value_of_parts : (text whole fraction exponent : List ℕ) (up down far cap 
     → in_range (signed (has_minus text) size) ≡ value_of text
 value_of_parts text whole fraction exponent up down far cap size w f e mantissa exponents u d short above small s =
     let digits : whole ++ fraction ≡ digits_of (mantissa_of text) = ap (λ l. l ++ fraction) w ∙ ap (λ l. whole_of (mantissa_of text) ++ l) f in
-    let capped = size_of_parts whole fraction exponent up down far cap size (and_right _ _ mantissa) u d short small s in
+    let capped = size_of_parts whole fraction exponent up down far cap size (and_parts _ _ mantissa).1 u d short small s in
     let same : nearest (number_of (whole ++ fraction) * 10 ^ (6 + places_up exponent)) (10 ^ (length fraction + places_down exponent)) ≡ size_of (mantissa_of text) (exponent_of text) =
     ap (λ l. nearest (number_of l * 10 ^ (6 + places_up exponent)) (10 ^ (length fraction + places_down exponent))) digits
     ∙ ap (λ l. nearest (number_of (digits_of (mantissa_of text)) * 10 ^ (6 + places_up exponent)) (10 ^ (length l + places_down exponent))) f
     ∙ ap (λ l. size_of (mantissa_of text) l) e in
     let numeral : is_numeral text ≡ true =
-    and_both _ _ (ap is_some_digits (sym digits) ∙ mantissa) (ap (λ l. not (has_exponent text) || is_some_digits (after_sign l)) (sym e) ∙ exponents) in
+    and_from _ _ (ap is_some_digits (sym digits) ∙ mantissa) (ap (λ l. not (has_exponent text) || is_some_digits (after_sign l)) (sym e) ∙ exponents) in
     ap (λ n. in_range (signed (has_minus text) n)) (capped ∙ ap (λ n. min n cap) same)
     ∙ in_range-cap (has_minus text) (size_of (mantissa_of text) (exponent_of text)) cap above
     ∙ sym (ap (λ b. if b then in_range (rounded_of text) else Err NotNumeral) numeral)

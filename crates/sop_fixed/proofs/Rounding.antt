@@ -4,7 +4,7 @@ use Rattle.std.proofs.lemmas.Nat.{pow-add, div-mul-add}
 use Rattle.std.proofs.lemmas.Grind.{common_steps}
 use Rattle.std.proofs.Math.Nat.{one-le-pow, pow-succ', mul-le-mul_right, mul-le-mul_left, mul-div-mul_right}
 use Rattle.std.proofs.Common.{◌⊎◌, inl, inr, drop-cons, add-one, get_or, min, if◌then◌else◌, nat_le}
-use Rattle.std.proofs.lemmas.Bool.{cases_lt}
+use Rattle.std.proofs.lemmas.Bool.{cases_lt, and_parts}
 use Rattle.std.specs.List.{list_all}
 use Rattle.std.proofs.lemmas.List.{take-append-drop, length-drop}
 use Rattle.std.proofs.lemmas.List.Folds.{list_all-append}
@@ -81,9 +81,6 @@ cut_at_digit q d rest h =
         half_up q (number_of (d ∷ rest)) (10 ^ length (d ∷ rest)) (omega (arith, over, e)) all ∙ (let z : q + 1 ≡ q + round_up d = grind (arith, common_steps) in z)
     ]
 
-and_right : (a b : Bool) → a && b ≡ true → b ≡ true
-and_right a b h = grind (arith, common_steps)
-
 -- the digits before place n, and the digit there, where the rest is cut
 pub nearest_cut : (digits : List ℕ) (n : ℕ) → n < length digits → list_all is_ascii_digit digits ≡ true
     → nearest (number_of digits) (10 ^ (length digits - n)) ≡ number_of (take n digits) + round_up (get_or digits n 0)
@@ -94,7 +91,7 @@ nearest_cut digits n h all =
     let parts : (list_all is_ascii_digit (take n digits) && list_all is_ascii_digit (get_or digits n 0 ∷ drop (n + 1) digits)) ≡ true = sym (list_all-append is_ascii_digit (take n digits) _) ∙ ap (list_all is_ascii_digit) (sym split) ∙ all in
     ap (λ k. nearest (number_of digits) (10 ^ k)) len
     ∙ ap (λ m. nearest m (10 ^ length (get_or digits n 0 ∷ drop (n + 1) digits))) (ap number_of split ∙ number_of-append (take n digits) _)
-    ∙ cut_at_digit (number_of (take n digits)) (get_or digits n 0) (drop (n + 1) digits) (and_right _ _ parts)
+    ∙ cut_at_digit (number_of (take n digits)) (get_or digits n 0) (drop (n + 1) digits) (and_parts _ _ parts).1
 
 -- more digits are cut than there are
 pub nearest_none : (digits : List ℕ) (k : ℕ) → length digits < k → list_all is_ascii_digit digits ≡ true → nearest (number_of digits) (10 ^ k) ≡ 0

@@ -136,6 +136,13 @@ pub fn print(x: Real, to: &mut Vec<u8>) -> Result<(), AllocError>
     to.extend_from_slice(fraction)
 }
 
+/// The law that what a number prints as reads back as that number. The call does nothing.
+pub fn decimal_reads_back(x: Real)
+    ensures { value_of (decimal_of x) ≡ Ok x }
+{
+    let _millionths = x.millionths();
+}
+
 fn sign_text(negative: bool) -> &'static [u8]
     ensures value { result.now ≡ sign_text negative }
     ensures short { length result.now ≤ 1 }

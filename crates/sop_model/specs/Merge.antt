@@ -3,7 +3,7 @@
 -- Heads and groups of a class come in order of first appearance over the inputs, and a head has the kind of its first appearance. Values of
 -- other inputs are put where that kind is wanted, else they are defaults. A group has the members of all inputs. A detail value is the one of
 -- the first input that has the head. The merge of no geometry is the empty geometry.
-use Rattle.std.specs.Prelude.{◌≡◌, ℕ, ◌+◌, Bool, true, false, not, List, [], ◌∷◌, ◌++◌, length, map, filter, Option, None, Some, unwrap_or, if◌then◌else◌}
+use Rattle.std.specs.Prelude.{ℕ, ◌+◌, Bool, false, not, List, [], ◌∷◌, ◌++◌, length, map, filter, Option, None, Some, unwrap_or, if◌then◌else◌}
 use Rattle.std.specs.List.{flat_map}
 use Rattle.std.specs.Option.{option_and_then}
 use Rattle.std.specs.Str.{bytes_eq}
@@ -33,7 +33,7 @@ first_names (name ∷ names) = name ∷ filter (λ k. not (bytes_eq name k)) (fi
 abbrev pub joined_set : Class → List Geo → HeadSet
 joined_set class gs = record {
   heads = first_heads (flat_map (λ g. (heads_of g class).heads) gs);
-  groups = first_names (flat_map (λ g. (heads_of g class).groups) gs)
+  groups = first_names (flat_map (λ g. (heads_of g class).groups) gs);
 }
 
 -- the value under a name, of values that stand in the order of some heads
@@ -56,7 +56,7 @@ fitted h v = unwrap_or (option_and_then (put h.kind) v) (default_of h.kind)
 abbrev pub row_under : HeadSet → HeadSet → Row → Row
 row_under new old row = record {
   values = map (λ h. fitted h (value_under old.heads row.values h.name)) new.heads;
-  flags = map (flag_under old.groups row.flags) new.groups
+  flags = map (flag_under old.groups row.flags) new.groups;
 }
 
 -- a vertex whose points stand behind so many others
@@ -67,7 +67,7 @@ abbrev pub moved_prim : List Geo → Geo → ℕ → Primitive → Primitive
 moved_prim gs g before p = record {
   closed = p.closed;
   row = row_under (joined_set Prim gs) g.prim p.row;
-  corners = map (moved_corner (joined_set Vertex gs) g.vertex before) p.corners
+  corners = map (moved_corner (joined_set Vertex gs) g.vertex before) p.corners;
 }
 
 -- the primitives of the inputs one after the other, where so many points stand before the first input
@@ -93,7 +93,7 @@ joined gs = record {
   vertex = joined_set Vertex gs;
   points = flat_map (λ g. map (row_under (joined_set Point gs) g.point) g.points) gs;
   prims = joined_prims gs 0 gs;
-  detail_row = record { values = map (λ h. fitted h (detail_value gs h)) (joined_set Detail gs).heads; flags = [] }
+  detail_row = record { values = map (λ h. fitted h (detail_value gs h)) (joined_set Detail gs).heads; flags = [] };
 }
 
 -- the merge; the empty geometry before the inputs changes nothing but that no input gives the empty geometry

@@ -9,7 +9,10 @@ pub mod value;
 pub mod view;
 
 pub use class::Class;
-pub use geo::{Corner, CornerList, FlagList, Geo, Head, HeadList, HeadSet, Prim, Primitive, Row, RowList, ValueList};
+pub use geo::{
+    Corner, CornerList, FlagList, Geo, Head, HeadList, HeadSet, Prim, Primitive, Row, RowList,
+    ValueList,
+};
 pub use primitives::PrimList;
 pub use value::{IntList, Kind, RealList, Value, ValueRef, VectorList};
 pub use view::{GeoView, Inputs};

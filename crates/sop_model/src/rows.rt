@@ -6,10 +6,11 @@ ghost use Rattle.sop_model.specs.Geometry.{heads_of, rows_of, IsReadable};
 ghost use Rattle.sop_model.specs.Vertices.{corners_of, size_of};
 
 use crate::class::Class;
-use crate::geo::{Corner, Geo, HeadSet, Row};
+use crate::geo::{Corner, Geo, Head, HeadSet, Row};
 use crate::primitives::PrimList;
 use crate::value::{Kind, ValueRef};
 use crate::view::GeoView;
+use sop_outside::Text;
 
 fn head_set(geo: &Geo, class: Class) -> &HeadSet
     ensures { result.now ≡ heads_of geo.now class }
@@ -27,10 +28,10 @@ fn corner(prims: &PrimList, vertex: u32) -> &Corner
     requires { vertex < length (corners_of prims.now) }
     ensures { slice_get (corners_of prims.now) vertex ≡ Some result.now }
 {
-    let prim = prims.prim_of(u64::from(vertex));
+    let number = u64::from(vertex);
+    let prim = prims.prim_of(number);
     let first = prims.first_vertex(prim);
-    let corners = &prims.get(prim).corners;
-    corners.get((u64::from(vertex) - first) as usize)
+    prims.get(prim).corners.get((number - first) as usize)
 }
 
 /// The row of an element.
@@ -43,6 +44,28 @@ fn row(geo: &Geo, class: Class, element: u32) -> &Row
         Class::Prim => &geo.prims.get(element as usize).row,
         Class::Point => geo.points.get(element as usize),
         Class::Vertex => &corner(&geo.prims, element).row,
+    }
+}
+
+/// The place of the attribute of this name.
+fn head_place(heads: &[Head], name: &str) -> Option<u32>
+    requires { length heads.now ≤ 64 }
+    ensures { result ≡ position (λ h. bytes_eq h.name name.now) heads.now }
+{
+    match heads.iter().position(|head| head.name.as_str() == name) {
+        Some(place) => Some(place as u32),
+        None => None,
+    }
+}
+
+/// The place of the group of this name.
+fn group_place(groups: &[Text], name: &str) -> Option<u32>
+    requires { length groups.now ≤ 256 }
+    ensures { result ≡ position (λ g. bytes_eq g name.now) groups.now }
+{
+    match groups.iter().position(|group| group.as_str() == name) {
+        Some(place) => Some(place as u32),
+        None => None,
     }
 }
 
@@ -73,9 +96,7 @@ impl GeoView for Geo {
     }
 
     fn find(&self, class: Class, name: &str) -> Option<u32> {
-        let heads = head_set(self, class).heads.as_slice();
-        let found: Option<usize> = heads.iter().position(|head| head.name.as_str() == name);
-        found.map(|place| place as u32)
+        head_place(head_set(self, class).heads.as_slice(), name)
     }
 
     fn groups(&self, class: Class) -> u32 {
@@ -87,9 +108,7 @@ impl GeoView for Geo {
     }
 
     fn find_group(&self, class: Class, name: &str) -> Option<u32> {
-        let groups = head_set(self, class).groups.as_slice();
-        let found: Option<usize> = groups.iter().position(|group| group.as_str() == name);
-        found.map(|place| place as u32)
+        group_place(head_set(self, class).groups.as_slice(), name)
     }
 
     fn value(&self, class: Class, head: u32, element: u32) -> ValueRef<'_> {

@@ -1,0 +1,4 @@
+pub mod ObjReading
+pub mod ObjForm
+pub mod ObjFirst
+pub mod ObjWriting

@@ -1,0 +1,72 @@
+-- The points and primitives of lines that have the first form, before the number of points is known.
+use Rattle.std.specs.Prelude.{ℕ, ◌-◌, Bool, true, false, if◌then◌else◌, ◌&&◌, not, nat_le, nat_lt, List, [], ◌∷◌, ◌++◌, length, Option, None, Some, Result, Ok, Err, ℤ, codes}
+use Rattle.std.specs.List.{list_all}
+use Rattle.std.specs.Option.{option_map}
+use Rattle.std.specs.Str.{bytes_eq}
+use Rattle.sop_fixed.specs.Numerals.{is_some_digits, number_of, value_of}
+use Rattle.sop_fixed.specs.declared.fault.NumeralFault.{NumeralFault}
+use Rattle.sop_fixed.specs.declared.vec3.Vec3.{Vec3}
+use Rattle.sop_model.specs.declared.geo.Row.{Row}
+use Rattle.sop_model.specs.declared.geo.Corner.{Corner}
+use Rattle.sop_model.specs.declared.geo.Primitive.{Primitive}
+use Rattle.sop_model.specs.Geometry.{empty_row}
+use Rattle.geo_text.specs.declared.part.Part.{Part}
+use Rattle.geo_text.specs.declared.part.Part.TheVariants.{Nothing, Position, Face}
+use Rattle.geo_text.specs.ObjReading.{is_filled, Sheet, with_part}
+use Rattle.geo_text.specs.ObjForm.{pieces_of, is_word}
+
+abbrev pub first_vector : Result ℤ NumeralFault → Result ℤ NumeralFault → Result ℤ NumeralFault → Option Vec3
+first_vector (Ok a) (Ok b) (Ok c) = Some (record { x = a; y = b; z = c })
+first_vector (Ok a) (Ok b) (Err e) = None
+first_vector (Ok a) (Err e) c = None
+first_vector (Err e) b c = None
+
+abbrev pub first_position : List (List ℕ) → Option Vec3
+first_position (x ∷ y ∷ z ∷ []) = first_vector (value_of x) (value_of y) (value_of z)
+first_position _ = None
+
+-- A number from 1 on, of at most 9 digits.
+abbrev pub first_corner : List ℕ → Option Corner
+first_corner word =
+    if is_some_digits word && nat_le (length word) 9 && nat_lt 0 (number_of word)
+    then Some (record { point = number_of word - 1; row = empty_row }) else None
+
+abbrev pub before_others : {A : Type 0} → Option A → Option (List A) → Option (List A)
+before_others None rest = None
+before_others (Some x) rest = option_map (λ xs. x ∷ xs) rest
+
+abbrev pub first_corners : List (List ℕ) → Option (List Corner)
+first_corners [] = Some []
+first_corners (word ∷ words) = before_others (first_corner word) (first_corners words)
+
+abbrev pub first_face : List (List ℕ) → Option (List Corner)
+first_face [] = None
+first_face (word ∷ words) = first_corners (word ∷ words)
+
+abbrev pub first_words : List (List ℕ) → Option Part
+first_words [] = None
+first_words (key ∷ words) =
+    if bytes_eq key (codes "v") then option_map Position (first_position words)
+    else if bytes_eq key (codes "f") then option_map Face (first_face words)
+    else None
+
+abbrev pub first_part : List ℕ → Option Part
+first_part line =
+    if not (is_filled line) then Some Nothing
+    else if list_all is_word (pieces_of line) then first_words (pieces_of line) else None
+
+abbrev pub first_joined : Option Part → Option Sheet → Option Sheet
+first_joined None rest = None
+first_joined (Some part) rest = option_map (with_part part) rest
+
+abbrev pub first_sheet : List (List ℕ) → Option Sheet
+first_sheet [] = Some (record { points = []; prims = [] })
+first_sheet (line ∷ lines) = first_joined (first_part line) (first_sheet lines)
+
+-- Whether each corner names one of so many points.
+abbrev pub are_within : ℕ → List Primitive → Bool
+are_within total prims = list_all (λ p. list_all (λ c. nat_lt c.point total) p.corners) prims
+
+-- Points and primitives that stand before those of a sheet.
+abbrev pub onto : List Row → List Primitive → Option Sheet → Option Sheet
+onto points prims rest = option_map (λ s. record { points = points ++ s.points; prims = prims ++ s.prims }) rest

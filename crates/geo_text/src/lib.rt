@@ -1,0 +1,11 @@
+//! Texts of geometries: OBJ, read and written.
+#![tactic(auto)]
+
+mod fault;
+mod part;
+mod read;
+mod write;
+
+pub use fault::ObjFault;
+pub use read::read_obj;
+pub use write::write_obj;
