@@ -10,7 +10,7 @@ use crate::geo::{Corner, Geo, Head, HeadSet, Row};
 use crate::primitives::PrimList;
 use crate::value::{Kind, ValueRef};
 use crate::view::GeoView;
-use sop_outside::text::Text;
+use sop_outside::Text;
 
 fn head_set(geo: &Geo, class: Class) -> &HeadSet
     ensures { result.now ≡ heads_of geo.now class }
