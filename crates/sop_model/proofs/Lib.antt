@@ -1,1 +1,3 @@
 mod VerticesLemmas
+pub mod PlainLemmas
+pub mod PlainMerge
