@@ -3,6 +3,5 @@ pub mod Script
 pub mod SerialCook
 pub mod Loads
 pub mod Keeping
-pub mod PlainMerge
 pub mod Answer
 pub mod Delivery

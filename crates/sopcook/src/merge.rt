@@ -1,9 +1,9 @@
 // The merge of geometries that have the attribute `P` alone.
-ghost use Rattle.std.specs.Prelude.{◌≡◌, ◌<◌, ◌≤◌, ◌+◌, ◌++◌, ◌^◌, Err, OnOk, OnErr, IsTrue, All, length, map, sum_by, false};
+ghost use Rattle.std.specs.Prelude.{◌≡◌, ◌<◌, ◌≤◌, ◌+◌, ◌++◌, ◌^◌, Err, OnOk, OnErr, IsTrue, All, length, map, sum_by, false, nat_lt, ◌||◌};
 ghost use Rattle.sop_model.specs.Vertices.{corners_of, size_of};
 ghost use Rattle.sop_model.specs.Geometry.{fits, IsReadable};
 ghost use Rattle.sopcook.specs.Keeping.{IsReady};
-ghost use Rattle.sopcook.specs.PlainMerge.{plain_append, shifted_corner, shifted_prim};
+ghost use Rattle.sop_model.specs.Plain.{plain_append, shifted_corner, shifted_prim};
 
 use crate::fault::{CookEnd, Fault};
 use sop_model::{Class, CornerList, Geo, GeoView, Prim, PrimList};
