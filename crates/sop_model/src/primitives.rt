@@ -91,6 +91,14 @@ impl PrimList {
         self.prims.as_slice()
     }
 
+    /// The primitives as a `Vec`, without taking memory.
+    pub fn into_vec(self) -> Vec<Primitive>
+        ensures { result.items ≡ self }
+    {
+        let PrimList { prims, ends: _ } = self;
+        prims
+    }
+
     /// The number of the first vertex of primitive i, or of all vertices where i is the number of primitives.
     pub fn first_vertex(&self, i: usize) -> u64
         requires { i ≤ length self.now }
