@@ -1,3 +1,3 @@
-mod VerticesLemmas
+pub mod VerticesLemmas
 pub mod PlainLemmas
 pub mod PlainMerge

@@ -1,13 +1,11 @@
 -- The merge of plain geometries: their points and primitives one after the other.
-use Rattle.std.proofs.Common.{◌≡◌, Bool, ℕ, zero, suc, ◌+◌, ◌<◌, ◌≤◌, List, [], ◌∷◌, ◌++◌, length, refl, sym, ◌∙◌, ap, subst, arith, append_assoc}
+use Rattle.std.proofs.Common.{◌≡◌, Bool, ℕ, ◌+◌, ◌<◌, List, [], ◌∷◌, ◌++◌, length, refl, sym, ◌∙◌, ap, subst, arith, append_assoc}
 use Rattle.std.specs.Prelude.{map, filter, All, not}
 use Rattle.std.specs.Str.{bytes_eq}
 use Rattle.std.specs.List.{flat_map}
 use Rattle.std.proofs.lemmas.List.{length-append, get_or_append_left, get_or-append-add, map-append, map-id, append-nil}
 use Rattle.std.proofs.lemmas.List.Concat.{flat_map-append}
 use Rattle.std.proofs.lemmas.List.Elements.{All-nil, All-cons, All-head, All-tail, All-append, All-weaker, All-map}
-use Rattle.sop_fixed.specs.declared.vec3.Vec3.{Vec3}
-use Rattle.sop_model.specs.declared.class.Class.{Class}
 use Rattle.sop_model.specs.declared.class.Class.TheVariants.{Detail, Prim, Point, Vertex}
 use Rattle.sop_model.specs.declared.geo.Geo.{Geo}
 use Rattle.sop_model.specs.declared.geo.Row.{Row}
@@ -15,15 +13,12 @@ use Rattle.sop_model.specs.declared.geo.Head.{Head}
 use Rattle.sop_model.specs.declared.geo.HeadSet.{HeadSet}
 use Rattle.sop_model.specs.declared.geo.Corner.{Corner}
 use Rattle.sop_model.specs.declared.geo.Primitive.{Primitive}
-use Rattle.sop_model.specs.declared.value.Kind.TheVariants as kind
 use Rattle.sop_model.specs.declared.value.Value.{Value}
-use Rattle.sop_model.specs.declared.value.Value.TheVariants as value
-use Rattle.sop_model.specs.Values.{kind_of}
-use Rattle.sop_model.specs.Vertices.{size_of, corners_of}
-use Rattle.sop_model.specs.Geometry.{heads_of, rows_of, empty_row, no_heads, position_head, only_position, empty_geo, HasOnlyPosition, IsNamed, IsRowOf, IsSound, BeginsWithPosition}
-use Rattle.sop_model.specs.Merge.{first_heads, first_names, joined_set, row_under, moved_corner, moved_prim, joined_prims, joined, merged, fitted, detail_value}
+use Rattle.sop_model.specs.Vertices.{corners_of}
+use Rattle.sop_model.specs.Geometry.{empty_row, no_heads, position_head, only_position, empty_geo, HasOnlyPosition, IsSound}
+use Rattle.sop_model.specs.Merge.{first_heads, first_names, joined_set, row_under, moved_corner, moved_prim, joined_prims, merged, fitted, detail_value}
 use Rattle.sop_model.proofs.PlainLemmas.{IsPlain-from_sound, IsSound-from_plain}
-use Rattle.sop_model.specs.Plain.{point_row, IsPointRow, IsPlain, shifted_corner, shifted_prim, shifted_prims, plain_append, plain_merged}
+use Rattle.sop_model.specs.Plain.{IsPointRow, IsPlain, shifted_corner, shifted_prim, shifted_prims, plain_append, plain_merged}
 
 set_made : List Head → List (List ℕ) → HeadSet
 set_made heads groups = record { heads = heads; groups = groups }
