@@ -1,2 +1,3 @@
 pub mod MergeLemmas
 pub mod GatherLemmas
+pub mod ReadyLemmas

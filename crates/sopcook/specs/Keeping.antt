@@ -1,5 +1,6 @@
 -- What a cook keeps of finished nodes, and what it tells.
-use Rattle.std.specs.Prelude.{◌≡◌, ℕ, List, Option, Some, Result, Ok, Err, IsErr, length, slice_get}
+use Rattle.std.specs.Prelude.{◌≡◌, ℕ, List, Option, Some, Result, Ok, Err, IsErr, length, slice_get, ◌+◌, Bool, nat_lt, ◌||◌}
+use Rattle.sop_model.specs.Vertices.{corners_of}
 use Rattle.sop_model.specs.declared.geo.Geo.{Geo}
 use Rattle.sop_model.specs.Geometry.{IsGood, Fits, HasOnlyPosition}
 use Rattle.sopcook.specs.declared.fault.CookEnd.{CookEnd}
@@ -12,6 +13,14 @@ pub record IsReady (g : Geo) : Type 0 where
   pub good : IsGood g
   pub fits : Fits g
   pub position : HasOnlyPosition g
+
+-- more points, primitives or vertices than a geometry may have
+abbrev pub is_over_limits : ℕ → ℕ → ℕ → Bool
+is_over_limits points prims vertices = nat_lt 1000000 points || nat_lt 1000000 prims || nat_lt 4000000 vertices
+
+-- the merge of two geometries has more than it may
+abbrev pub are_over : Geo → Geo → Bool
+are_over a b = is_over_limits (length a.points + length b.points) (length a.prims + length b.prims) (length (corners_of a.prims) + length (corners_of b.prims))
 
 -- the code answers a geometry only where the node gives that one, and a fault only where it gives a fault
 abbrev pub Tells : Outcome → Result Geo CookEnd → Type 0

@@ -13,7 +13,7 @@ use crate::loaded::{Loaded, LoadedFiles};
 use crate::merge::append;
 use crate::network::{Node, NodeType};
 use geo_text::{ObjFault, read_obj};
-use sop_model::Geo;
+use sop_model::{Copied, Geo};
 use std::alloc::{AllocError, Global};
 
 impl From<AllocError> for CookEnd {

@@ -1,12 +1,12 @@
 // The merge of geometries that have the attribute `P` alone.
-ghost use Rattle.std.specs.Prelude.{◌≡◌, ◌<◌, ◌≤◌, ◌+◌, ◌++◌, ◌^◌, Err, OnOk, OnErr, IsTrue, All, length, map, sum_by, false, nat_lt, ◌||◌};
-ghost use Rattle.sop_model.specs.Vertices.{corners_of, size_of};
-ghost use Rattle.sop_model.specs.Geometry.{fits, IsReadable};
-ghost use Rattle.sopcook.specs.Keeping.{IsReady};
+ghost use Rattle.std.specs.Prelude.{◌≡◌, ◌<◌, ◌+◌, ◌++◌, ◌^◌, Err, OnOk, All, map, true};
+ghost use Rattle.sop_model.specs.Geometry.{IsReadable};
+ghost use Rattle.sopcook.specs.declared.fault.Fault.{Fault};
+ghost use Rattle.sopcook.specs.Keeping.{IsReady, are_over};
 ghost use Rattle.sop_model.specs.Plain.{plain_append, shifted_corner, shifted_prim};
 
 use crate::fault::{CookEnd, Fault};
-use sop_model::{Class, CornerList, Geo, GeoView, Prim, PrimList};
+use sop_model::{Class, CornerList, Geo, GeoView, Prim, PrimList, RowList};
 use std::alloc::AllocError;
 
 /// The greatest numbers of points, primitives and vertices.
@@ -24,6 +24,16 @@ fn shift_corners(corners: CornerList, before: u32) -> CornerList
         corner.point += before;
     }
     CornerList::from_vec(corners)
+}
+
+/// Puts rows behind others.
+fn append_rows(into: &mut RowList, from: RowList) -> Result<(), AllocError>
+    ensures { OnOk result (into.new ≡ into.old ++ from) }
+{
+    for row in from.into_vec() {
+        into.add(row)?;
+    }
+    Ok(())
 }
 
 /// Puts primitives behind others, each of whose points stands behind so many others.
@@ -46,9 +56,7 @@ fn append_prims(into: &mut PrimList, from: PrimList, before: u32) -> Result<(), 
 fn is_over(into: &Geo, from: &Geo) -> bool
     requires into { IsReadable into.now }
     requires from { IsReadable from.now }
-    ensures { result ≡ (nat_lt 1000000 (length into.now.points + length from.now.points)
-        || nat_lt 1000000 (length into.now.prims + length from.now.prims)
-        || nat_lt 4000000 (length (corners_of into.now.prims) + length (corners_of from.now.prims))) }
+    ensures { result ≡ are_over into.now from.now }
 {
     into.count(Class::Point) + from.count(Class::Point) > MOST_POINTS
         || into.count(Class::Prim) + from.count(Class::Prim) > MOST_PRIMS
@@ -61,15 +69,13 @@ pub fn append(into: &mut Geo, from: Geo) -> Result<(), CookEnd>
     requires from { IsReady from }
     ensures ok { OnOk result (into.new ≡ plain_append into.old from) }
     ensures ready { OnOk result (IsReady into.new) }
-    ensures over { result ≡ Err (CookEnd.Fault Fault.NotYet) → fits (plain_append into.old from) ≡ false }
+    ensures over { (fault : Fault) → result ≡ Err (CookEnd.Fault fault) → are_over into.old from ≡ true }
 {
     if is_over(into, &from) {
         return Err(CookEnd::Fault(Fault::NotYet));
     }
     let before = into.count(Class::Point);
-    for row in from.points.into_vec() {
-        into.points.add(row)?;
-    }
+    append_rows(&mut into.points, from.points)?;
     append_prims(&mut into.prims, from.prims, before)?;
     Ok(())
 }
