@@ -2,7 +2,7 @@
 ghost use Rattle.std.specs.Prelude.{◌≡◌, IfOk};
 ghost use Rattle.sopcook.specs.Network.{number_of, new_node};
 
-use sop_outside::text::Text;
+use sop_outside::Text;
 use std::alloc::{AllocError, Global};
 
 /// What a node does.
