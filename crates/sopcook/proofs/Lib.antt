@@ -1,3 +1,6 @@
 pub mod MergeLemmas
 pub mod GatherLemmas
 pub mod ReadyLemmas
+pub mod NetworkLemmas
+pub mod ScriptExamples
+pub mod ScriptLemmas

@@ -1,11 +1,10 @@
 -- The network: a list of nodes in order of making, each with its name, its type, its parameters and its wires.
 --
 -- A node's number is its place in the list. A wire stands at the number of the input that it goes into, and names its source by number.
-use Rattle.std.specs.Prelude.{◌≡◌, ℕ, ◌<◌, Bool, true, false, List, [], ◌∷◌, Option, None, Some, position, slice_get, replicate}
+use Rattle.std.specs.Prelude.{◌≡◌, ℕ, ◌<◌, List, [], Option, None, Some, position, slice_get, replicate}
 use Rattle.std.specs.Str.{bytes_eq}
 use Rattle.sopcook.specs.declared.network.Node.{Node}
 use Rattle.sopcook.specs.declared.network.NodeType.{NodeType}
-use Rattle.sopcook.specs.declared.network.NodeType.TheVariants.{File, Merge}
 
 -- the number of the node of this name
 abbrev pub number_of : List Node → List ℕ → Option ℕ

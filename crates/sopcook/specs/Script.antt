@@ -6,7 +6,7 @@
 --   opwire NAME INDEX SOURCE                NAME is an earlier merge node, INDEX 0 to 31 without a leading zero,
 --                                           SOURCE a node whose opadd line stands before that of NAME
 -- A later opparm or opwire of the same place replaces what an earlier one set.
-use Rattle.std.specs.Prelude.{ℕ, ◌+◌, ◌-◌, ◌*◌, Bool, true, false, ◌&&◌, ◌||◌, nat_le, nat_lt, ◌==◌, if◌then◌else◌, List, [], ◌∷◌, ◌++◌, length, Option, None, Some, is_none, slice_get, slice_set, codes}
+use Rattle.std.specs.Prelude.{ℕ, ◌+◌, ◌-◌, ◌*◌, Bool, ◌&&◌, ◌||◌, nat_le, nat_lt, ◌==◌, if◌then◌else◌, List, [], ◌∷◌, ◌++◌, length, Option, None, Some, is_none, slice_get, slice_set, codes}
 use Rattle.std.specs.List.{slice_split, list_all}
 use Rattle.std.specs.Option.{option_and_then, option_map}
 use Rattle.std.specs.Str.{bytes_eq}
@@ -69,16 +69,27 @@ with_wire nodes name None source = None
 with_wire nodes name (Some input) source =
     option_and_then (λ x. option_and_then (λ s. option_and_then (λ n. changed nodes x (wire_set n.kind n x input s)) (slice_get nodes x)) (number_of nodes source)) (number_of nodes name)
 
+-- the network after a line of this command with these words behind it
+abbrev pub after_opadd : List Node → List (List ℕ) → Option (List Node)
+after_opadd nodes (type ∷ name ∷ []) = added nodes (type_of_word type) name
+after_opadd nodes words = None
+
+abbrev pub after_opparm : List Node → List (List ℕ) → Option (List Node)
+after_opparm nodes (name ∷ parm ∷ word ∷ []) = if bytes_eq parm (codes "file") then with_file nodes name word else None
+after_opparm nodes words = None
+
+abbrev pub after_opwire : List Node → List (List ℕ) → Option (List Node)
+after_opwire nodes (name ∷ input ∷ source ∷ []) = with_wire nodes name (input_of_word input) source
+after_opwire nodes words = None
+
 -- the network after a line of these words
 abbrev pub after_line : List Node → List (List ℕ) → Option (List Node)
 after_line nodes [] = None
-after_line nodes (a ∷ []) = None
-after_line nodes (a ∷ b ∷ []) = None
-after_line nodes (a ∷ b ∷ c ∷ []) = if bytes_eq a (codes "opadd") then added nodes (type_of_word b) c else None
-after_line nodes (a ∷ b ∷ c ∷ d ∷ []) =
-    if bytes_eq a (codes "opparm") then (if bytes_eq c (codes "file") then with_file nodes b d else None)
-    else if bytes_eq a (codes "opwire") then with_wire nodes b (input_of_word c) d else None
-after_line nodes (a ∷ b ∷ c ∷ d ∷ e ∷ words) = None
+after_line nodes (command ∷ words) =
+    if bytes_eq command (codes "opadd") then after_opadd nodes words
+    else if bytes_eq command (codes "opparm") then after_opparm nodes words
+    else if bytes_eq command (codes "opwire") then after_opwire nodes words
+    else None
 
 -- behind the last LF nothing stands
 abbrev pub after_end : List Node → List ℕ → Option (List Node)

@@ -1,10 +1,11 @@
 // The network of a plain script, line by line.
-ghost use Rattle.std.specs.Prelude.{◌≡◌, ◌==◌, ◌<◌, ◌≤◌, IsTrue, IfOk, IfSome, OnOk, OnErr, Err, Some, None, length, map, slice_set, slice_get};
+ghost use Rattle.std.specs.Prelude.{◌≡◌, ◌==◌, ◌<◌, ◌≤◌, ℕ, IfOk, IfSome, OnOk, OnErr, Err, Some, None, List, [], ◌∷◌, ◌++◌, length, map, slice_set, slice_get};
+ghost use Rattle.std.specs.Str.{IsAscii};
 ghost use Rattle.std.specs.List.{list_all, slice_split};
 ghost use Rattle.std.specs.Option.{option_map};
 ghost use Rattle.sop_model.specs.Geometry.{is_name, continues_name};
 ghost use Rattle.sopcook.specs.Network.{number_of, IsOrdered};
-ghost use Rattle.sopcook.specs.Script.{script_lines, script_words, type_of_word, is_path, is_path_byte, input_of_word, added, with_file, with_wire, after_line, after_lines, after_end, network_of};
+ghost use Rattle.sopcook.specs.Script.{script_lines, script_words, type_of_word, is_path, is_path_byte, input_of_word, added, with_file, with_wire, after_opadd, after_opparm, after_opwire, after_line, after_lines, after_end, network_of};
 
 use crate::network::{Node, NodeType, find};
 use sop_outside::Text;
@@ -13,7 +14,9 @@ use std::alloc::{AllocError, Global};
 /// Why a script gives no network.
 #[derive(Clone, Copy, Debug, PartialEq, Eq)]
 pub enum ScriptEnd {
+    /// The bytes haven't the form.
     NotYet,
+    /// An allocation failed.
     Memory,
 }
 
@@ -42,7 +45,9 @@ fn is_name(word: &[u8]) -> bool
 {
     match word {
         [first, rest @ ..] => {
-            (first.is_ascii_alphabetic() || *first == b'_') && rest.len() <= 63 && all_continue_names(rest)
+            (first.is_ascii_alphabetic() || *first == b'_')
+                && rest.len() <= 63
+                && all_continue_names(rest)
         }
         [] => false,
     }
@@ -51,7 +56,9 @@ fn is_name(word: &[u8]) -> bool
 fn all_continue_names(bytes: &[u8]) -> bool
     ensures { result ≡ list_all continues_name bytes.now }
 {
-    bytes.iter().all(|b| b.is_ascii_alphanumeric() || *b == b'_')
+    bytes
+        .iter()
+        .all(|b| b.is_ascii_alphanumeric() || *b == b'_')
 }
 
 fn is_path(word: &[u8]) -> bool
@@ -63,9 +70,7 @@ fn is_path(word: &[u8]) -> bool
 fn all_path_bytes(bytes: &[u8]) -> bool
     ensures { result ≡ list_all is_path_byte bytes.now }
 {
-    bytes
-        .iter()
-        .all(|b| b.is_ascii_alphanumeric() || matches!(*b, b'_' | b'.' | b'/'))
+    bytes.iter().all(|b| b.is_ascii_alphanumeric() || matches!(*b, b'_' | b'.' | b'/'))
 }
 
 /// An input's number, 0 to 31.
@@ -98,16 +103,27 @@ fn lines_of(alloc: Global, text: &[u8]) -> Result<Vec<&[u8]>, AllocError>
 }
 
 /// A name or a path as text.
-fn ascii_text(bytes: &[u8]) -> Option<&str>
-    ensures { IfSome result (λ text. text.now ≡ bytes.now) }
+fn ascii_text(bytes: &[u8]) -> &str
+    requires { IsAscii bytes.now }
+    ensures { result.now ≡ bytes.now }
 {
-    std::str::from_utf8(bytes).ok()
+    match std::str::from_utf8(bytes) {
+        Ok(text) => text,
+        Err(_) => unreachable!(),
+    }
 }
 
-fn add_node(alloc: Global, nodes: &mut Vec<Node>, kind: Option<NodeType>, name: &[u8]) -> Result<(), ScriptEnd>
-    requires { IsOrdered nodes.old.items }
+fn add_node(
+    alloc: Global,
+    nodes: &mut Vec<Node>,
+    kind: Option<NodeType>,
+    name: &[u8],
+) -> Result<(), ScriptEnd>
+    requires few { length nodes.old.items ≤ 1024 }
+    requires ordered { IsOrdered nodes.old.items }
     ensures ok { OnOk result (added nodes.old.items kind name.now ≡ Some nodes.new.items) }
     ensures not_yet { result ≡ Err ScriptEnd.NotYet → added nodes.old.items kind name.now ≡ None }
+    ensures few { length nodes.new.items ≤ 1024 }
     ensures ordered { IsOrdered nodes.new.items }
 {
     let Some(kind) = kind else {
@@ -116,12 +132,10 @@ fn add_node(alloc: Global, nodes: &mut Vec<Node>, kind: Option<NodeType>, name: 
     if !is_name(name) || find(nodes, name).is_some() || nodes.len() >= 1024 {
         return Err(ScriptEnd::NotYet);
     }
-    let Some(name) = ascii_text(name) else {
-        return Err(ScriptEnd::NotYet);
-    };
-    let node = Node::new(alloc, kind, name)?;
-    nodes.push(node).map_err(AllocError::from)?;
-    Ok(())
+    match nodes.push(Node::new(alloc, kind, ascii_text(name))?) {
+        Ok(()) => Ok(()),
+        Err(_) => Err(ScriptEnd::Memory),
+    }
 }
 
 fn set_file(alloc: Global, nodes: &mut [Node], name: &[u8], word: &[u8]) -> Result<(), ScriptEnd>
@@ -134,18 +148,19 @@ fn set_file(alloc: Global, nodes: &mut [Node], name: &[u8], word: &[u8]) -> Resu
         return Err(ScriptEnd::NotYet);
     };
     let node = &mut nodes[x];
-    match node.kind {
-        NodeType::File if is_path(word) => {}
-        _ => return Err(ScriptEnd::NotYet),
-    }
-    let Some(file) = ascii_text(word) else {
+    if node.kind != NodeType::File || !is_path(word) {
         return Err(ScriptEnd::NotYet);
-    };
-    node.file = Text::from_str(alloc, file)?;
+    }
+    node.file = Text::from_str(alloc, ascii_text(word))?;
     Ok(())
 }
 
-fn set_wire(nodes: &mut [Node], name: &[u8], input: Option<usize>, source: &[u8]) -> Result<(), ScriptEnd>
+fn set_wire(
+    nodes: &mut [Node],
+    name: &[u8],
+    input: Option<usize>,
+    source: &[u8],
+) -> Result<(), ScriptEnd>
     requires few { length nodes.old ≤ 1024 }
     requires ordered { IsOrdered nodes.old }
     requires below { IfSome input (λ i. i < 32) }
@@ -153,7 +168,8 @@ fn set_wire(nodes: &mut [Node], name: &[u8], input: Option<usize>, source: &[u8]
     ensures not_yet { OnErr result (with_wire nodes.old name.now input source.now ≡ None) }
     ensures ordered { IsOrdered nodes.new }
 {
-    let (Some(input), Some(x), Some(source)) = (input, find(nodes, name), find(nodes, source)) else {
+    let (Some(input), Some(x), Some(source)) = (input, find(nodes, name), find(nodes, source))
+    else {
         return Err(ScriptEnd::NotYet);
     };
     let node = &mut nodes[x];
@@ -164,6 +180,49 @@ fn set_wire(nodes: &mut [Node], name: &[u8], input: Option<usize>, source: &[u8]
     Ok(())
 }
 
+fn opadd(alloc: Global, nodes: &mut Vec<Node>, words: &[&[u8]]) -> Result<(), ScriptEnd>
+    requires few { length nodes.old.items ≤ 1024 }
+    requires ordered { IsOrdered nodes.old.items }
+    ensures ok { OnOk result (after_opadd nodes.old.items (map (λ word. word.now) words.now) ≡ Some nodes.new.items) }
+    ensures not_yet { result ≡ Err ScriptEnd.NotYet → after_opadd nodes.old.items (map (λ word. word.now) words.now) ≡ None }
+    ensures few { length nodes.new.items ≤ 1024 }
+    ensures ordered { IsOrdered nodes.new.items }
+{
+    match words {
+        [kind, name] => add_node(alloc, nodes, type_of_word(kind), name),
+        _ => Err(ScriptEnd::NotYet),
+    }
+}
+
+fn opparm(alloc: Global, nodes: &mut Vec<Node>, words: &[&[u8]]) -> Result<(), ScriptEnd>
+    requires few { length nodes.old.items ≤ 1024 }
+    requires ordered { IsOrdered nodes.old.items }
+    ensures ok { OnOk result (after_opparm nodes.old.items (map (λ word. word.now) words.now) ≡ Some nodes.new.items) }
+    ensures not_yet { result ≡ Err ScriptEnd.NotYet → after_opparm nodes.old.items (map (λ word. word.now) words.now) ≡ None }
+    ensures few { length nodes.new.items ≤ 1024 }
+    ensures ordered { IsOrdered nodes.new.items }
+{
+    match words {
+        [name, parm, word] if *parm == b"file".as_slice() => set_file(alloc, nodes, name, word),
+        _ => Err(ScriptEnd::NotYet),
+    }
+}
+
+fn opwire(nodes: &mut Vec<Node>, words: &[&[u8]]) -> Result<(), ScriptEnd>
+    requires few { length nodes.old.items ≤ 1024 }
+    requires ordered { IsOrdered nodes.old.items }
+    ensures ok { OnOk result (after_opwire nodes.old.items (map (λ word. word.now) words.now) ≡ Some nodes.new.items) }
+    ensures not_yet { result ≡ Err ScriptEnd.NotYet → after_opwire nodes.old.items (map (λ word. word.now) words.now) ≡ None }
+    ensures few { length nodes.new.items ≤ 1024 }
+    ensures ordered { IsOrdered nodes.new.items }
+{
+    match words {
+        [name, input, source] => set_wire(nodes, name, input_of_word(input), source),
+        _ => Err(ScriptEnd::NotYet),
+    }
+}
+
+/// Carries out the line of these words.
 fn read_words(alloc: Global, nodes: &mut Vec<Node>, words: &[&[u8]]) -> Result<(), ScriptEnd>
     requires few { length nodes.old.items ≤ 1024 }
     requires ordered { IsOrdered nodes.old.items }
@@ -172,27 +231,26 @@ fn read_words(alloc: Global, nodes: &mut Vec<Node>, words: &[&[u8]]) -> Result<(
     ensures few { length nodes.new.items ≤ 1024 }
     ensures ordered { IsOrdered nodes.new.items }
 {
-    match words {
-        [b"opadd", kind, name] => add_node(alloc, nodes, type_of_word(kind), name),
-        [b"opparm", name, b"file", word] => set_file(alloc, nodes, name, word),
-        [b"opwire", name, input, source] => set_wire(nodes, name, input_of_word(input), source),
+    let [command, words @ ..] = words else {
+        return Err(ScriptEnd::NotYet);
+    };
+    match *command {
+        b"opadd" => opadd(alloc, nodes, words),
+        b"opparm" => opparm(alloc, nodes, words),
+        b"opwire" => opwire(nodes, words),
         _ => Err(ScriptEnd::NotYet),
     }
 }
 
-/// Carries out the lines of a script, each of which ended with LF.
-fn read_lines(alloc: Global, nodes: &mut Vec<Node>, text: &[u8]) -> Result<(), ScriptEnd>
+/// Carries out lines, behind which more may stand.
+fn read_lines(alloc: Global, nodes: &mut Vec<Node>, lines: &[&[u8]]) -> Result<(), ScriptEnd>
     requires few { length nodes.old.items ≤ 1024 }
     requires ordered { IsOrdered nodes.old.items }
-    ensures ok { OnOk result (after_lines nodes.old.items (script_lines text.now) ≡ Some nodes.new.items) }
-    ensures not_yet { result ≡ Err ScriptEnd.NotYet → after_lines nodes.old.items (script_lines text.now) ≡ None }
+    ensures ok { OnOk result ((last : List ℕ) → after_lines nodes.old.items (map (λ line. line.now) lines.now ++ last ∷ []) ≡ after_end nodes.new.items last) }
+    ensures not_yet { result ≡ Err ScriptEnd.NotYet → (last : List ℕ) → after_lines nodes.old.items (map (λ line. line.now) lines.now ++ last ∷ []) ≡ None }
     ensures few { length nodes.new.items ≤ 1024 }
     ensures ordered { IsOrdered nodes.new.items }
 {
-    let lines = lines_of(alloc, text)?;
-    let Some((last, lines)) = lines.split_last() else {
-        return Err(ScriptEnd::NotYet);
-    };
     for line in lines {
         let words = words_of(alloc, line)?;
         match read_words(alloc, nodes, words.as_slice()) {
@@ -200,19 +258,25 @@ fn read_lines(alloc: Global, nodes: &mut Vec<Node>, text: &[u8]) -> Result<(), S
             Err(end) => return Err(end),
         }
     }
-    if last.is_empty() { Ok(()) } else { Err(ScriptEnd::NotYet) }
+    Ok(())
 }
 
-/// The network of a script: its nodes in order of making.
+/// The network of a script: its nodes in order of making, at most 1,024 of them, each with wires from earlier nodes alone.
+/// `NotYet` comes exactly where the bytes haven't the form of a script, `Memory` for want of memory.
 pub fn read_script(alloc: Global, bytes: &[u8]) -> Result<Vec<Node>, ScriptEnd>
     ensures ok { IfOk result (λ nodes. network_of bytes.now ≡ Some nodes.items) }
     ensures not_yet { result ≡ Err ScriptEnd.NotYet → network_of bytes.now ≡ None }
     ensures ordered { IfOk result (λ nodes. IsOrdered nodes.items) }
     ensures few { IfOk result (λ nodes. length nodes.items ≤ 1024) }
 {
+    let lines = lines_of(alloc, bytes)?;
+    let Some((last, lines)) = lines.split_last() else {
+        return Err(ScriptEnd::NotYet);
+    };
     let mut nodes = Vec::new(alloc);
-    match read_lines(alloc, &mut nodes, bytes) {
-        Ok(()) => Ok(nodes),
+    match read_lines(alloc, &mut nodes, lines) {
+        Ok(()) if last.is_empty() => Ok(nodes),
+        Ok(()) => Err(ScriptEnd::NotYet),
         Err(end) => Err(end),
     }
 }
