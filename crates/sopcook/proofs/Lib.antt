@@ -1,0 +1,2 @@
+pub mod SerialCookLemmas
+pub mod LoadsLemmas
