@@ -145,6 +145,17 @@ grows_then told nodes old middle new first second = record {
   stays = λ x here. second.stays x (first.stays x here);
 }
 
+-- one more load
+pub grows_load : (told : Option Names) (nodes : List Node) (old now new : Needs) → Grows told nodes old now → new.reached ≡ now.reached → new.uses ≡ now.uses → IfSome told (λ names. HoldsLoads names now.loaded → HoldsLoads names new.loaded) → Keeps now.loaded new.loaded → Grows told nodes old new
+grows_load told nodes old now new grows reached uses loads keeps = record {
+  reached = ap (λ v. length v.items) reached ∙ grows.reached;
+  uses = ap (λ v. length v.items) uses ∙ grows.uses;
+  closed = subst (λ v. IsClosed nodes v.items new.loaded) (sym reached) (closed_kept nodes now.reached.items now.loaded new.loaded keeps grows.closed);
+  loads = holds_then told old.loaded now.loaded new.loaded grows.loads loads;
+  kept = keeps_then old.loaded now.loaded new.loaded grows.kept keeps;
+  stays = λ x here. subst (λ v. Reached v.items x) (sym reached) (grows.stays x here);
+}
+
 -- a node is reached after its file and its sources
 pub grows_set : (told : Option Names) (nodes : List Node) (old now new : Needs) (x : ℕ) (n : Node) (count : ℕ) → Grows told nodes old now → slice_get nodes x ≡ Some n → length n.wires ≤ count → HasSources now.reached.items n.wires count → (n.kind ≡ File → Has now.loaded n.file) → new.reached.items ≡ set now.reached.items x true → new.uses ≡ now.uses → new.loaded ≡ now.loaded → Grows told nodes old new
 grows_set told nodes old now new x n count grows found all sources file reached uses loaded = record {

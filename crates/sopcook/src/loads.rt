@@ -118,12 +118,12 @@ fn load_upstream<F: Files>(
         return Ok(());
     }
     let node = &nodes[x];
-    load_node(files, alloc, node, &mut needs.loaded)?;
     for wire in node.wires.as_slice() {
         if let Some(source) = wire {
             load_upstream(files, alloc, nodes, *source as usize, needs)?;
         }
     }
+    load_node(files, alloc, node, &mut needs.loaded)?;
     needs.reached[x] = true;
     Ok(())
 }

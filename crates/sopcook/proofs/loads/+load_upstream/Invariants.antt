@@ -1,8 +1,5 @@
-use Rattle.std.proofs.Common.{◌≡◌, ◌≤◌, Some}
-use Rattle.std.specs.Prelude.{slice_get}
-use Rattle.sopcook.specs.declared.network.Node.{Node}
-use Rattle.sopcook.specs.declared.network.NodeType.TheVariants.{File}
-use Rattle.sopcook.specs.Loads.{Grows, Has}
+use Rattle.std.proofs.Common.{◌≡◌, ◌≤◌}
+use Rattle.sopcook.specs.Loads.{Grows}
 use Rattle.sopcook.proofs.LoadsLemmas.{HasSources}
 use Rattle.sopcook.proofs.loads.+load_upstream.Given as goal
 
@@ -14,6 +11,5 @@ invariant-loop-wire g l = record {
   told : g.F.Files.told l.files ≡ g.F.Files.told l.fn.files;
   faults : g.F.Files.faults l.fn.files ≤ g.F.Files.faults l.files;
   grows : Grows (g.F.Files.told l.fn.files) l.nodes l.fn.needs l.needs;
-  file : (n : Node) → slice_get l.nodes l.x ≡ Some n → n.kind ≡ File → Has l.needs.loaded n.file;
   sources : HasSources l.needs.reached.items l.wire-items l.wire-index;
 }
