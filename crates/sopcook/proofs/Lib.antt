@@ -1,6 +1,9 @@
 pub mod MergeLemmas
 pub mod GatherLemmas
 pub mod ReadyLemmas
+pub mod CookLemmas
 pub mod NetworkLemmas
 pub mod ScriptExamples
 pub mod ScriptLemmas
+pub mod SerialCookLemmas
+pub mod LoadsLemmas

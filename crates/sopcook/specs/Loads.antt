@@ -2,7 +2,7 @@
 --
 -- The files of a node are loaded with those of all nodes upstream of it, inputs before the node and by rising input number, each name once.
 -- A load of at most 64 MiB is kept, and so is that a file is missing or too long.
-use Rattle.std.specs.Prelude.{◌≡◌, ℕ, true, List, Bool, IsTrue, Option, None, Some, Result, Ok, Err, slice_get, is_some, String}
+use Rattle.std.specs.Prelude.{◌≡◌, ℕ, true, List, Bool, IsTrue, IfSome, Option, Some, Result, Ok, Err, length, slice_get, is_some, String}
 use Rattle.std.specs.Option.{option_map_or}
 use Rattle.std.specs.BTreeMap.{BTreeMap, get_by_text}
 use Rattle.std.specs.declared.alloc.Global.{Global}
@@ -12,6 +12,7 @@ use Rattle.sop_outside.specs.declared.files.LoadEnd.TheVariants as end
 use Rattle.sopcook.specs.declared.network.Node.{Node}
 use Rattle.sopcook.specs.declared.network.NodeType.TheVariants.{File}
 use Rattle.sopcook.specs.declared.loaded.Loaded.{Loaded}
+use Rattle.sopcook.specs.declared.loads.Needs.{Needs}
 use Rattle.sopcook.specs.declared.loaded.Loaded.TheVariants as load
 use Rattle.sopcook.specs.SerialCook.{FileMap}
 
@@ -62,3 +63,12 @@ pub record IsClosed (nodes : List Node) (reached : List Bool) (loaded : LoadedMa
 -- what was reached stays reached
 abbrev pub StaysReached : List Bool → List Bool → Type 0
 StaysReached old new = (x : ℕ) → Reached old x → Reached new x
+
+-- what a cook needs is within its network, and has grown; where files tell their bytes, the new loads are of those bytes
+pub record Grows (told : Option Names) (nodes : List Node) (old new : Needs) : Type 0 where
+  pub reached : length new.reached.items ≡ length nodes
+  pub uses : length new.uses.items ≡ length nodes
+  pub closed : IsClosed nodes new.reached.items new.loaded
+  pub loads : IfSome told (λ names. HoldsLoads names old.loaded → HoldsLoads names new.loaded)
+  pub kept : Keeps old.loaded new.loaded
+  pub stays : StaysReached old.reached.items new.reached.items

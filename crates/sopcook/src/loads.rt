@@ -2,7 +2,7 @@
 ghost use Rattle.std.specs.Prelude.{◌≡◌, ◌<◌, ◌≤◌, ◌^◌, length, Err, IfOk, IfSome, OnOk, Some, true, slice_get};
 ghost use Rattle.sop_outside.specs.Causes.{Counts};
 ghost use Rattle.sopcook.specs.Network.{IsOrdered};
-ghost use Rattle.sopcook.specs.Loads.{HoldsLoads, Has, Keeps, IsClosed, Reached, StaysReached};
+ghost use Rattle.sopcook.specs.Loads.{HoldsLoads, Has, Keeps, IsClosed, Grows, Reached, result_of_load, told_files};
 
 use crate::loaded::{Loaded, LoadedFiles};
 use crate::network::{Node, NodeType};
@@ -38,8 +38,28 @@ pub struct Needs {
     pub loaded: LoadedFiles,
 }
 
-/// Loads one file, where no load of its name was kept.
-fn load_file<F: Files>(files: &mut F, alloc: Global, name: &str, loaded: &mut LoadedFiles) -> Result<(), RunEnd>
+/// Loads one file. That it is missing or too long is a load too.
+fn load_one<F: Files>(files: &mut F, alloc: Global, name: &str) -> Result<Loaded, RunEnd>
+    ensures told { F.told files.new ≡ F.told files.old }
+    ensures faults { Counts (F.faults files.old) (F.faults files.new) (result ≡ Err RunEnd.Read) }
+    ensures load { IfSome (F.told files.old) (λ names. IfOk result (λ load. result_of_load load ≡ told_files names name.now)) }
+{
+    match files.load(alloc, name, FILE_LIMIT) {
+        Ok(bytes) => Ok(Loaded::Bytes(bytes)),
+        Err(LoadEnd::Missing) => Ok(Loaded::Missing),
+        Err(LoadEnd::TooLong) => Ok(Loaded::TooLong),
+        Err(LoadEnd::Failed) => Err(RunEnd::Read),
+        Err(LoadEnd::Memory) => Err(RunEnd::Memory),
+    }
+}
+
+/// Loads a file, where no load of its name was kept.
+fn load_file<F: Files>(
+    files: &mut F,
+    alloc: Global,
+    name: &str,
+    loaded: &mut LoadedFiles,
+) -> Result<(), RunEnd>
     ensures told { F.told files.new ≡ F.told files.old }
     ensures faults { Counts (F.faults files.old) (F.faults files.new) (result ≡ Err RunEnd.Read) }
     ensures loads { IfSome (F.told files.old) (λ names. HoldsLoads names loaded.old → HoldsLoads names loaded.new) }
@@ -49,21 +69,40 @@ fn load_file<F: Files>(files: &mut F, alloc: Global, name: &str, loaded: &mut Lo
     if loaded.contains_key(name) {
         return Ok(());
     }
-    let load = match files.load(alloc, name, FILE_LIMIT) {
-        Ok(bytes) => Loaded::Bytes(bytes),
-        Err(LoadEnd::Missing) => Loaded::Missing,
-        Err(LoadEnd::TooLong) => Loaded::TooLong,
-        Err(LoadEnd::Failed) => return Err(RunEnd::Read),
-        Err(LoadEnd::Memory) => return Err(RunEnd::Memory),
-    };
+    let load = load_one(files, alloc, name)?;
     match loaded.insert(String::from_str(alloc, name)?, load) {
         Ok(_) => Ok(()),
         Err(_) => Err(RunEnd::Memory),
     }
 }
 
+/// Loads the file of a file node.
+fn load_node<F: Files>(
+    files: &mut F,
+    alloc: Global,
+    node: &Node,
+    loaded: &mut LoadedFiles,
+) -> Result<(), RunEnd>
+    ensures told { F.told files.new ≡ F.told files.old }
+    ensures faults { Counts (F.faults files.old) (F.faults files.new) (result ≡ Err RunEnd.Read) }
+    ensures loads { IfSome (F.told files.old) (λ names. HoldsLoads names loaded.old → HoldsLoads names loaded.new) }
+    ensures kept { Keeps loaded.old loaded.new }
+    ensures here { OnOk result (node.now.kind ≡ NodeType.File → Has loaded.new node.now.file) }
+{
+    match node.kind {
+        NodeType::File => load_file(files, alloc, node.file.as_str(), loaded),
+        NodeType::Merge => Ok(()),
+    }
+}
+
 /// Loads the files of node x and of all nodes upstream of it, and counts the use of x.
-fn load_upstream<F: Files>(files: &mut F, alloc: Global, nodes: &[Node], x: usize, needs: &mut Needs) -> Result<(), RunEnd>
+fn load_upstream<F: Files>(
+    files: &mut F,
+    alloc: Global,
+    nodes: &[Node],
+    x: usize,
+    needs: &mut Needs,
+) -> Result<(), RunEnd>
     requires node { x < length nodes.now }
     requires ordered { IsOrdered nodes.now }
     requires reached { length needs.old.reached.items ≡ length nodes.now }
@@ -71,12 +110,7 @@ fn load_upstream<F: Files>(files: &mut F, alloc: Global, nodes: &[Node], x: usiz
     requires closed { IsClosed nodes.now needs.old.reached.items needs.old.loaded }
     ensures told { F.told files.new ≡ F.told files.old }
     ensures faults { Counts (F.faults files.old) (F.faults files.new) (result ≡ Err RunEnd.Read) }
-    ensures reached { length needs.new.reached.items ≡ length nodes.now }
-    ensures uses { length needs.new.uses.items ≡ length nodes.now }
-    ensures closed { IsClosed nodes.now needs.new.reached.items needs.new.loaded }
-    ensures loads { IfSome (F.told files.old) (λ names. HoldsLoads names needs.old.loaded → HoldsLoads names needs.new.loaded) }
-    ensures kept { Keeps needs.old.loaded needs.new.loaded }
-    ensures stays { StaysReached needs.old.reached.items needs.new.reached.items }
+    ensures grows { Grows (F.told files.old) nodes.now needs.old needs.new }
     ensures here { OnOk result (Reached needs.new.reached.items x) }
 {
     needs.uses[x] = needs.uses[x].saturating_add(1);
@@ -84,20 +118,23 @@ fn load_upstream<F: Files>(files: &mut F, alloc: Global, nodes: &[Node], x: usiz
         return Ok(());
     }
     let node = &nodes[x];
-    if node.kind == NodeType::File {
-        load_file(files, alloc, node.file.as_str(), &mut needs.loaded)?;
-    }
-    for wire in &node.wires {
+    for wire in node.wires.as_slice() {
         if let Some(source) = wire {
             load_upstream(files, alloc, nodes, *source as usize, needs)?;
         }
     }
+    load_node(files, alloc, node, &mut needs.loaded)?;
     needs.reached[x] = true;
     Ok(())
 }
 
 /// What the cook of node x needs.
-pub fn load_needs<F: Files>(files: &mut F, alloc: Global, nodes: &[Node], x: usize) -> Result<Needs, RunEnd>
+pub fn load_needs<F: Files>(
+    files: &mut F,
+    alloc: Global,
+    nodes: &[Node],
+    x: usize,
+) -> Result<Needs, RunEnd>
     requires node { x < length nodes.now }
     requires ordered { IsOrdered nodes.now }
     ensures told { F.told files.new ≡ F.told files.old }
