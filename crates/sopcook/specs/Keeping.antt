@@ -5,6 +5,7 @@ use Rattle.sop_model.specs.declared.geo.Geo.{Geo}
 use Rattle.sop_model.specs.Geometry.{IsGood, Fits, HasOnlyPosition}
 use Rattle.sopcook.specs.declared.fault.CookEnd.{CookEnd}
 use Rattle.sopcook.specs.declared.fault.CookEnd.TheVariants.{Fault, Memory}
+use Rattle.sopcook.specs.declared.fault.Fault as fault
 use Rattle.sopcook.specs.declared.kept.Kept.{Kept}
 use Rattle.sopcook.specs.SerialCook.{Outcome}
 
@@ -27,6 +28,12 @@ abbrev pub Tells : Outcome → Result Geo CookEnd → Type 0
 Tells outcome (Ok g) = outcome ≡ Ok g
 Tells outcome (Err (Fault fault)) = IsErr outcome
 Tells outcome (Err Memory) = Unit {0}
+
+-- the same, of what a file gives
+abbrev pub TellsFile : Result Geo fault.Fault → Result Geo CookEnd → Type 0
+TellsFile outcome (Ok g) = outcome ≡ Ok g
+TellsFile outcome (Err (Fault fault)) = IsErr outcome
+TellsFile outcome (Err Memory) = Unit {0}
 
 -- each kept geometry is what its node gives
 pub record IsKept (cook : ℕ → Outcome) (nodes : ℕ) (kept : Kept) : Type 0 where

@@ -53,14 +53,14 @@ gathered go [] = Ok []
 gathered go (None ∷ wires) = gathered go wires
 gathered go (Some source ∷ wires) = then_with (go source) (λ g. then_with (gathered go wires) (λ gs. Ok (g ∷ gs)))
 
--- what a merge gives, where `go` tells what its sources give
-abbrev pub merge_outcome : (ℕ → Outcome) → ℕ → Node → Outcome
-merge_outcome go x n = then_with (gathered go n.wires) (λ gs. at_node x (merge_geo gs))
+-- what a merge with these wires gives, where `go` tells what its sources give
+abbrev pub merge_outcome : (ℕ → Outcome) → ℕ → List (Option ℕ) → Outcome
+merge_outcome go x wires = then_with (gathered go wires) (λ gs. at_node x (merge_geo gs))
 
 -- what a node of this type gives, where `go` tells what the nodes give that it takes from
 abbrev pub visit_type : (ℕ → Outcome) → FileMap → ℕ → Node → NodeType → Outcome
 visit_type go files x n File = at_node x (file_geo (files n.file))
-visit_type go files x n Merge = merge_outcome go x n
+visit_type go files x n Merge = merge_outcome go x n.wires
 
 abbrev pub visit : (ℕ → Outcome) → FileMap → ℕ → Option Node → Outcome
 visit go files x None = at_node x (Err NotYet)

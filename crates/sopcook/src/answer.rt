@@ -1,12 +1,15 @@
 // What the program answers.
-ghost use Rattle.std.specs.Prelude.{◌≡◌, ◌<◌, ◌≤◌, Err, IfOk, IfSome, map, string_bytes, length, Some};
+ghost use Rattle.std.specs.Prelude.{◌≡◌, ◌<◌, ◌⊎◌, Ok, Err, IfOk, IfSome, map, string_bytes, length};
+ghost use Rattle.std.specs.Option.{option_map};
+ghost use Rattle.std.specs.Result.{result_ok};
 ghost use Rattle.sop_outside.specs.Causes.{Counts};
 ghost use Rattle.sop_outside.specs.Load.{load_of};
-ghost use Rattle.sop_model.specs.declared.geo.Geo.{Geo};
+ghost use Rattle.sop_model.specs.Geometry.{IsReadable, HasOnlyPosition};
 ghost use Rattle.sopcook.specs.Network.{IsOrdered};
-ghost use Rattle.sopcook.specs.SerialCook.{Outcome, cook_of};
+ghost use Rattle.sopcook.specs.Script.{network_of};
+ghost use Rattle.sopcook.specs.SerialCook.{cook_of};
 ghost use Rattle.sopcook.specs.Loads.{script_limit, told_files};
-ghost use Rattle.sopcook.specs.Answer.{answer_of, refused, not_yet, no_node, node_answer, script_answer, cook_answer};
+ghost use Rattle.sopcook.specs.Answer.{answer_of, refused, not_yet, no_node, network_answer, cook_answer};
 
 use crate::cook::cook;
 use crate::fault::CookEnd;

@@ -1,11 +1,10 @@
 // The serial cook of a network whose wires come from earlier nodes. Each node that is needed is cooked once.
-ghost use Rattle.std.specs.Prelude.{◌≡◌, ◌<◌, ◌≤◌, ◌^◌, length, Err, Ok, IfOk, OnOk, Some, IfSome, IsErr, slice_get};
+ghost use Rattle.std.specs.Prelude.{◌≡◌, ◌<◌, ◌≤◌, ◌^◌, length, IfOk, Some, slice_get, ℕ};
 ghost use Rattle.sop_model.specs.declared.geo.Geo.{Geo};
-ghost use Rattle.sopcook.specs.declared.fault.Fault.{Fault};
 ghost use Rattle.sopcook.specs.Network.{IsOrdered};
 ghost use Rattle.sopcook.specs.SerialCook.{Outcome, cook_of, file_geo, merge_outcome};
 ghost use Rattle.sopcook.specs.Loads.{kept_files};
-ghost use Rattle.sopcook.specs.Keeping.{IsKept, Tells, IsReady, AreNone};
+ghost use Rattle.sopcook.specs.Keeping.{IsKept, Tells, TellsFile, IsReady, AreNone};
 
 use crate::fault::{CookEnd, Fault};
 use crate::kept::Kept;
@@ -13,7 +12,7 @@ use crate::loaded::{Loaded, LoadedFiles};
 use crate::merge::append;
 use crate::network::{Node, NodeType};
 use geo_text::{ObjFault, read_obj};
-use sop_model::{Copied, Geo};
+use sop_model::Geo;
 use std::alloc::{AllocError, Global};
 
 impl From<AllocError> for CookEnd {
@@ -28,8 +27,7 @@ impl From<AllocError> for CookEnd {
 
 /// The geometry of a loaded file.
 fn read_file(alloc: Global, loaded: &LoadedFiles, name: &str) -> Result<Geo, CookEnd>
-    ensures ok { IfOk result (λ geo. file_geo (kept_files loaded.now name.now) ≡ Ok geo) }
-    ensures fault { (fault : Fault) → result ≡ Err (CookEnd.Fault fault) → IsErr (file_geo (kept_files loaded.now name.now)) }
+    ensures tells { TellsFile (file_geo (kept_files loaded.now name.now)) result }
     ensures ready { IfOk result IsReady }
 {
     let Some(Loaded::Bytes(bytes)) = loaded.get(name) else {
@@ -58,21 +56,40 @@ fn give(
     ensures tells { Tells (cook_of (kept_files loaded.now) nodes.now x) result }
     ensures ready { IfOk result IsReady }
 {
-    kept.uses[x] = kept.uses[x].saturating_sub(1);
-    let geo = match kept.geos[x].take() {
+    let geo = match kept.take(x) {
         Some(geo) => geo,
-        None => match make(alloc, nodes, loaded, x, kept) {
-            Ok(geo) => geo,
-            Err(end) => return Err(end),
-        },
+        None => return make_and_keep(alloc, nodes, loaded, x, kept),
     };
-    if kept.uses[x] > 0 {
-        match geo.copy(alloc) {
-            Ok(copy) => kept.geos[x] = Some(copy),
-            Err(_) => return Err(CookEnd::Memory),
-        }
+    match kept.keep(alloc, x, &geo) {
+        Ok(()) => Ok(geo),
+        Err(_) => Err(CookEnd::Memory),
     }
-    Ok(geo)
+}
+
+/// Cooks node x, and keeps its geometry where a later use is left.
+#[cycle(cook)]
+fn make_and_keep(
+    alloc: Global,
+    nodes: &[Node],
+    loaded: &LoadedFiles,
+    x: usize,
+    kept: &mut Kept,
+) -> Result<Geo, CookEnd>
+    requires node { x < length nodes.now }
+    requires ordered { IsOrdered nodes.now }
+    requires kept { IsKept (cook_of (kept_files loaded.now) nodes.now) (length nodes.now) kept.old }
+    ensures kept { IsKept (cook_of (kept_files loaded.now) nodes.now) (length nodes.now) kept.new }
+    ensures tells { Tells (cook_of (kept_files loaded.now) nodes.now x) result }
+    ensures ready { IfOk result IsReady }
+{
+    let geo = match make(alloc, nodes, loaded, x, kept) {
+        Ok(geo) => geo,
+        Err(end) => return Err(end),
+    };
+    match kept.keep(alloc, x, &geo) {
+        Ok(()) => Ok(geo),
+        Err(_) => Err(CookEnd::Memory),
+    }
 }
 
 /// Cooks node x.
@@ -94,31 +111,33 @@ fn make(
     let node = &nodes[x];
     match node.kind {
         NodeType::File => read_file(alloc, loaded, node.file.as_str()),
-        NodeType::Merge => merge_wired(alloc, nodes, loaded, x, kept),
+        NodeType::Merge => merge_wired(alloc, nodes, loaded, x, node.wires.as_slice(), kept),
     }
 }
 
-/// The merge of the wired inputs of node x, by rising input number.
+/// The merge of the sources that the wires of node x name, by rising input number.
 #[cycle(cook)]
 fn merge_wired(
     alloc: Global,
     nodes: &[Node],
     loaded: &LoadedFiles,
     x: usize,
+    wires: &[Option<u32>],
     kept: &mut Kept,
 ) -> Result<Geo, CookEnd>
     requires node { x < length nodes.now }
+    requires earlier { (i source : ℕ) → slice_get wires.now i ≡ Some (Some source) → source < x }
     requires ordered { IsOrdered nodes.now }
     requires kept { IsKept (cook_of (kept_files loaded.now) nodes.now) (length nodes.now) kept.old }
     ensures kept { IsKept (cook_of (kept_files loaded.now) nodes.now) (length nodes.now) kept.new }
-    ensures tells { IfSome (slice_get nodes.now x) (λ node. Tells (merge_outcome (cook_of (kept_files loaded.now) nodes.now) x node) result) }
+    ensures tells { Tells (merge_outcome (cook_of (kept_files loaded.now) nodes.now) x wires.now) result }
     ensures ready { IfOk result IsReady }
 {
     let mut into = match Geo::empty(alloc) {
         Ok(geo) => geo,
         Err(_) => return Err(CookEnd::Memory),
     };
-    for wire in &nodes[x].wires {
+    for wire in wires {
         if let Some(source) = wire {
             let geo = match give(alloc, nodes, loaded, *source as usize, kept) {
                 Ok(geo) => geo,
