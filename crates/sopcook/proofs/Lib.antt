@@ -7,3 +7,5 @@ pub mod ScriptExamples
 pub mod ScriptLemmas
 pub mod SerialCookLemmas
 pub mod LoadsLemmas
+pub mod AnswerLemmas
+pub mod DeliveryLemmas
