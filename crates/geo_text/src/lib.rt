@@ -4,6 +4,7 @@
 mod fault;
 mod part;
 mod read;
+mod sheet;
 mod write;
 
 pub use fault::ObjFault;
