@@ -5,14 +5,16 @@ use Rattle.std.specs.List.{list_all}
 use Rattle.std.specs.Option.{option_map}
 use Rattle.std.proofs.lemmas.Bool.{and_parts, and_from, and_left, and_right, false_from_ne_true}
 use Rattle.std.proofs.lemmas.Bool.Decides.{nat_tests}
+use Rattle.std.proofs.lemmas.List.Elements.{All-nil, All-cons}
 use Rattle.sop_model.specs.declared.geo.Geo.{Geo}
 use Rattle.sop_model.specs.Vertices.{corners_of}
 use Rattle.geo_text.specs.declared.part.Part.{Part}
 use Rattle.geo_text.specs.declared.part.Part.TheVariants.{Nothing, Position, Face}
 use Rattle.geo_text.specs.declared.sheet.Sheet.{Sheet}
-use Rattle.geo_text.specs.ObjReading.{lines_of, words_of, worded_lines, positions_in, references_in, faces_in, is_filled, is_position_line, references_of, Refusal, Limit, part_of, with_part, joined, map_ok, sheet_from, passes_limits, geo_of, geo_of_lines, obj_geo}
+use Rattle.geo_text.specs.ObjReading.{lines_of, words_of, worded_lines, positions_in, references_in, faces_in, is_filled, is_position_line, references_of, Refusal, Limit, part_of, point_row, face_of, with_part, joined, map_ok, sheet_from, passes_limits, geo_of, geo_of_lines, obj_geo}
 use Rattle.geo_text.specs.ObjForm.{pieces_of, is_word, have_form, has_line_form, ends_with_line_feed, has_first_form}
 use Rattle.geo_text.specs.ObjFirst.{first_words, first_part, first_joined, first_sheet, are_within, onto, is_small, vertices_of}
+use Rattle.geo_text.proofs.Plain.{IsPointRow, IsFace, IsPlainPart, IsPlainSheet}
 use Rattle.geo_text.proofs.Words.{words_are_pieces}
 use Rattle.geo_text.proofs.Lines.{Says, words_say, words_complete, part_within, points_of, prims_of}
 
@@ -22,12 +24,13 @@ pub record LineSays (total : ℕ) (line : List ℕ) (part : Part) : Type 0 where
   pub points : (if is_position_line (words_of line) then 1 else 0) ≡ points_of part
   pub references : length (references_of (words_of line)) ≡ vertices_of part
   pub faces : (if is_filled (references_of (words_of line)) then 1 else 0) ≡ prims_of part
+  pub plain : IsPlainPart part
   pub means : part_within total part ≡ true → (n so_far : ℕ) → part_of n total so_far (words_of line) ≡ Ok part
 
 pub line_says : (total : ℕ) (line : List ℕ) (part : Part) → first_part line ≡ Some part → LineSays total line part
 line_says total [] part e =
     let nothing : Nothing ≡ part = cc in
-    subst (LineSays total []) nothing (record { form = refl; points = refl; references = refl; faces = refl; means = λ _ n so_far. refl })
+    subst (LineSays total []) nothing (record { form = refl; points = refl; references = refl; faces = refl; plain = tt; means = λ _ n so_far. refl })
 line_says total (x ∷ xs) part e =
     let line = x ∷ xs in
     let says = words_say total (pieces_of line) part e in
@@ -37,6 +40,7 @@ line_says total (x ∷ xs) part e =
       points = ap (λ words. if is_position_line words then 1 else 0) same ∙ says.points;
       references = ap (λ words. length (references_of words)) same ∙ says.references;
       faces = ap (λ words. if is_filled (references_of words) then 1 else 0) same ∙ says.faces;
+      plain = says.plain;
       means = λ within n so_far. ap (part_of n total so_far) same ∙ says.means within n so_far;
     }
 
@@ -53,10 +57,10 @@ line_without total (x ∷ xs) e =
       none_some (first_words pieces) e part is)
 
 -- ---- all lines
-joined_some : (o : Option Part) (rest : Option Sheet) (s : Sheet) → first_joined o rest ≡ Some s → (part : Part) × (t : Sheet) × ((o ≡ Some part) × (rest ≡ Some t) × (with_part part t ≡ s))
+joined_some : (o : Option Part) (rest : Option Sheet) (s : Sheet) → first_joined o rest ≡ Some s → (part : Part) × (t : Sheet) × (o ≡ Some part) × (rest ≡ Some t) × (with_part part t ≡ s)
 joined_some None rest s e = cc
 joined_some (Some part) None s e = cc
-joined_some (Some part) (Some t) s e = (part, (t, (refl, refl, cc)))
+joined_some (Some part) (Some t) s e = (part, t, refl, refl, cc)
 
 joined_none : (o : Option Part) (rest : Option Sheet) → first_joined o rest ≡ None → (o ≡ None) ⊎ (rest ≡ None)
 joined_none None rest e = inl refl
@@ -83,31 +87,38 @@ within_with total Nothing t = refl
 within_with total (Position at) t = refl
 within_with total (Face corners) t = refl
 
+plain_with : (part : Part) (t : Sheet) → IsPlainPart part → IsPlainSheet t → IsPlainSheet (with_part part t)
+plain_with Nothing t p rest = rest
+plain_with (Position at) t p rest = record { points = All-cons IsPointRow (point_row at) t.points (at, refl) rest.points; prims = rest.prims }
+plain_with (Face corners) t p rest = record { points = rest.points; prims = All-cons IsFace (face_of corners) t.prims (record { row = refl; filled = p.0; rows = p.1 }) rest.prims }
+
 pub record LinesSay (total : ℕ) (lines : List (List ℕ)) (s : Sheet) : Type 0 where
   pub form : list_all (has_line_form total) lines ≡ are_within total s.prims
   pub points : positions_in (map words_of lines) ≡ length s.points
   pub references : references_in (map words_of lines) ≡ length (corners_of s.prims)
   pub faces : faces_in (map words_of lines) ≡ length s.prims
+  pub plain : IsPlainSheet s
   pub means : are_within total s.prims ≡ true → (n so_far : ℕ) → sheet_from n total so_far (map words_of lines) ≡ Ok s
 
 pub lines_say : (total : ℕ) (lines : List (List ℕ)) (s : Sheet) → first_sheet lines ≡ Some s → LinesSay total lines s
 lines_say total [] s e =
     let none : record { points = []; prims = [] } ≡ s = cc in
-    subst (LinesSay total []) none (record { form = refl; points = refl; references = refl; faces = refl; means = λ _ n so_far. refl })
+    subst (LinesSay total []) none (record { form = refl; points = refl; references = refl; faces = refl; plain = record { points = All-nil IsPointRow; prims = All-nil IsFace }; means = λ _ n so_far. refl })
 lines_say total (line ∷ lines) s e =
-    let (part, (t, is)) = joined_some (first_part line) (first_sheet lines) s e in
-    let first = line_says total line part is.0 in
-    let rest = lines_say total lines t is.1 in
-    subst (LinesSay total (line ∷ lines)) is.2 (record {
+    let (part, t, here, later, whole) = joined_some (first_part line) (first_sheet lines) s e in
+    let first = line_says total line part here in
+    let rest = lines_say total lines t later in
+    subst (LinesSay total (line ∷ lines)) whole (record {
       form = rw (first.form, rest.form) (within_with total part t);
       points = rw (first.points, rest.points) (points_with part t);
       references = rw (first.references, rest.references) (vertices_with part t);
       faces = rw (first.faces, rest.faces) (prims_with part t);
+      plain = plain_with part t first.plain rest.plain;
       means = λ within n so_far.
         let parts = and_parts (part_within total part) (are_within total t.prims) (within_with total part t ∙ within) in
-        let here = first.means parts.0 n so_far in
-        let later = rest.means parts.1 (n + 1) (so_far + (if is_position_line (words_of line) then 1 else 0)) in
-        rw (here, later);
+        let now = first.means parts.0 n so_far in
+        let then_on = rest.means parts.1 (n + 1) (so_far + (if is_position_line (words_of line) then 1 else 0)) in
+        rw (now, then_on);
     })
 
 pub lines_without : (total : ℕ) (lines : List (List ℕ)) → first_sheet lines ≡ None → list_all (has_line_form total) lines ≡ false
@@ -119,13 +130,13 @@ lines_without total (line ∷ lines) e =
     ]
 
 -- ---- the whole text
+limits_small : (points prims vertices : ℕ) → (nat_lt 1000000 points || nat_lt 4000000 vertices || nat_lt 1000000 prims) ≡ not (nat_le points 1000000 && nat_le prims 1000000 && nat_le vertices 4000000)
+limits_small points prims vertices = grind (arith, nat_tests)
+
 pub text_without : (bytes : List ℕ) → first_sheet (lines_of bytes) ≡ None → has_first_form bytes ≡ false
 text_without bytes e = and_right (ends_with_line_feed bytes) (list_all (has_line_form (positions_in (worded_lines bytes))) (lines_of bytes)) (lines_without (positions_in (worded_lines bytes)) (lines_of bytes) e)
 
 module _ (bytes : List ℕ) (s : Sheet) (read : first_sheet (lines_of bytes) ≡ Some s) where
-  total : ℕ
-  total = positions_in (worded_lines bytes)
-
   say : LinesSay (positions_in (worded_lines bytes)) (lines_of bytes) s
   say = lines_say (positions_in (worded_lines bytes)) (lines_of bytes) s read
 

@@ -110,10 +110,14 @@ fn read_position(words: &[u8]) -> Option<Vec3>
     let (x, rest) = split_word(words);
     let (y, rest) = split_word(rest?);
     let (z, rest) = split_word(rest?);
-    match (read_coordinate(x), read_coordinate(y), read_coordinate(z), rest) {
-        (Some(x), Some(y), Some(z), None) => Some(Vec3 { x, y, z }),
-        _ => None,
+    if rest.is_some() {
+        return None;
     }
+    Some(Vec3 {
+        x: read_coordinate(x)?,
+        y: read_coordinate(y)?,
+        z: read_coordinate(z)?,
+    })
 }
 
 fn read_coordinate(word: &[u8]) -> Option<Real>
@@ -182,7 +186,7 @@ fn all_digits(text: &[u8]) -> bool
 }
 
 fn number_of(digits: &[u8]) -> u32
-    requires digits { IsTrue (list_all is_ascii_digit digits.now) }
+    requires digits { list_all is_ascii_digit digits.now ≡ true }
     requires few { length digits.now ≤ 9 }
     ensures { result ≡ number_of digits.now }
 {

@@ -53,7 +53,13 @@ impl Sheet {
     {
         self.points.len() <= MOST_POINTS
             && self.prims.len() <= MOST_PRIMITIVES
-            && self.prims.first_vertex(self.prims.len()) <= MOST_VERTICES
+            && self.vertices() <= MOST_VERTICES
+    }
+
+    fn vertices(&self) -> u64
+        ensures { result ≡ length (corners_of self.now.prims) }
+    {
+        self.prims.first_vertex(self.prims.len())
     }
 
     /// Whether each corner names a point.
