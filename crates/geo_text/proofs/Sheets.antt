@@ -156,3 +156,13 @@ module _ (bytes : List ℕ) (s : Sheet) (read : first_sheet (lines_of bytes) ≡
   text_too_large large =
     let many : passes_limits (worded_lines bytes) ≡ true = rw (text_limits, large) in
     rw many
+
+  pub text_plain : IsPlainSheet s
+  text_plain = say.plain
+
+refused_from : (bytes : List ℕ) (o : Option Sheet) → first_sheet (lines_of bytes) ≡ o → IfSome o (λ s. is_small s ≡ false) → (has_first_form bytes ≡ false) ⊎ (obj_geo bytes ≡ Err Limit)
+refused_from bytes None e h = inl (text_without bytes e)
+refused_from bytes (Some s) e h = inr (text_too_large bytes s e h)
+
+pub text_refused : (bytes : List ℕ) → IfSome (first_sheet (lines_of bytes)) (λ s. is_small s ≡ false) → (has_first_form bytes ≡ false) ⊎ (obj_geo bytes ≡ Err Limit)
+text_refused bytes h = refused_from bytes (first_sheet (lines_of bytes)) refl h

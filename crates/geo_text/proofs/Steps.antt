@@ -1,6 +1,7 @@
 -- Steps of the loops that read.
 use Rattle.std.proofs.Common.{◌≡◌, ℕ, suc, ◌+◌, ◌-◌, ◌*◌, ◌^◌, ◌<◌, ◌≤◌, List, [], ◌∷◌, ◌++◌, length, get_or, take, drop, drop-cons, add-one, append_assoc, append-nil, length-append, length-drop, zero, Bool, true, false, not, refl, sym, ap, subst, ◌∙◌, arith, Option, Some, None, inl, inr, cond, lit≤}
-use Rattle.std.specs.Prelude.{◌&&◌, ◌==◌, nat_lt, nat_le, IfSome, position, sum_by}
+use Rattle.std.specs.Prelude.{◌&&◌, ◌==◌, nat_lt, nat_le, IfSome, is_some, position, sum_by, codes, if◌then◌else◌}
+use Rattle.std.specs.Borrow.{Bor}
 use Rattle.std.specs.List.{list_all, position_or_len, slice_split, onto_first}
 use Rattle.std.specs.Char.{is_ascii_digit}
 use Rattle.std.specs.Option.{option_map}
@@ -9,8 +10,9 @@ use Rattle.std.proofs.lemmas.Bool.{and_parts, cases_Bool}
 use Rattle.std.proofs.lemmas.Bool.Decides.{nat_tests}
 use Rattle.std.proofs.lemmas.List.{take_all}
 use Rattle.std.proofs.lemmas.List.Concat.{flat_map-append, length-flat_map}
-use Rattle.std.proofs.lemmas.List.Splits.{slice_split_first, slice_split-cons_no}
+use Rattle.std.proofs.lemmas.List.Splits.{slice_split_first, slice_split-cons_no, length-slice_split}
 use Rattle.sop_fixed.specs.Numerals.{number_of}
+use Rattle.sop_fixed.specs.declared.vec3.Vec3.{Vec3}
 use Rattle.sop_model.specs.declared.geo.Corner.{Corner}
 use Rattle.sop_model.specs.declared.geo.Primitive.{Primitive}
 use Rattle.sop_model.specs.Vertices.{corners_of, size_of, first_vertex_in}
@@ -18,9 +20,9 @@ use Rattle.sop_model.specs.Geometry.{empty_row}
 use Rattle.geo_text.specs.declared.part.Part.{Part}
 use Rattle.geo_text.specs.declared.part.Part.TheVariants.{Nothing, Position, Face}
 use Rattle.geo_text.specs.declared.sheet.Sheet.{Sheet}
-use Rattle.geo_text.specs.ObjReading.{with_part}
+use Rattle.geo_text.specs.ObjReading.{is_filled, with_part}
 use Rattle.geo_text.specs.ObjForm.{pieces_of}
-use Rattle.geo_text.specs.ObjFirst.{first_corner, first_corners, first_part, first_joined, first_sheet, onto, is_small, vertices_of, before_others}
+use Rattle.geo_text.specs.ObjFirst.{first_corner, first_corners, first_face, first_position, first_words, pieces_left, first_part, first_joined, first_sheet, onto, is_small, vertices_of, before_others}
 
 pub drop_here : {A : Type 0} (all : List A) (i : ℕ) (x : A) → i < length all → x ≡ get_or all i x → drop i all ≡ x ∷ drop (i + 1) all
 drop_here all i x lt is = rw add-one (drop-cons all i x lt ∙ ap (λ y. y ∷ drop (suc i) all) (sym is))
@@ -81,6 +83,50 @@ unsplit p (x ∷ xs) h =
 
 pub split_none : (p : ℕ → Bool) (text : List ℕ) → position p text ≡ None → slice_split p text ≡ text ∷ []
 split_none p text e = unsplit p text (found_none (nat_lt (position_or_len p text) (length text)) (position_or_len p text) e)
+
+-- ---- one line
+filled : (line : List ℕ) → (length line == 0) ≡ false → is_filled line ≡ true
+filled [] h = cc
+filled (x ∷ xs) h = refl
+
+pub key_is : (key : List ℕ) (b : ℕ) → 1 ≤ length key → length key < 2 → get_or key 0 0 ≡ b → key ≡ b ∷ []
+key_is [] b low high at = absurd (omega arith)
+key_is (x ∷ []) b low high at = ap (λ y. y ∷ []) at
+key_is (x ∷ y ∷ key) b low high at = absurd (omega arith)
+
+module _ (line key words : List ℕ) (some : (length line == 0) ≡ false) (pieces : pieces_of line ≡ key ∷ pieces_of words) where
+  line_words : (k : List ℕ) → key ≡ k → first_part line ≡ first_words (k ∷ pieces_of words)
+  line_words k is = ap (λ b. if b then first_words (pieces_of line) else Some Nothing) (filled line some) ∙ ap first_words (pieces ∙ ap (λ l. l ∷ pieces_of words) is)
+
+  pub position_line_of : (v : Vec3) → key ≡ codes "v" → first_position (pieces_of words) ≡ Some v → first_part line ≡ Some (Position v)
+  position_line_of v is e = line_words (codes "v") is ∙ ap (option_map Position) e
+
+  pub face_line_of : key ≡ codes "f" → first_part line ≡ option_map Face (first_face (pieces_of words))
+  face_line_of is = line_words (codes "f") is
+
+  pieces_face : (pieces : List (List ℕ)) → 0 < length pieces → first_face pieces ≡ first_corners pieces
+  pieces_face [] h = absurd (omega arith)
+  pieces_face (p ∷ pieces) h = refl
+
+  pub corners_line_of : key ≡ codes "f" → first_part line ≡ option_map Face (first_corners (pieces_of words))
+  corners_line_of is = face_line_of is ∙ ap (option_map Face) (pieces_face (pieces_of words) (omega (arith, length-slice_split (λ b. b == 32) words)))
+
+pub face_too_long : (o : Option (List Corner)) → IfSome o (λ cs. 4000000 < length cs) → IfSome (option_map Face o) (λ part. 4000000 < vertices_of part)
+face_too_long None h = tt
+face_too_long (Some cs) h = h
+
+-- a fourth piece is one too many
+fourth : (x y z : List ℕ) (more : List (List ℕ)) → 0 < length more → first_position (x ∷ y ∷ z ∷ more) ≡ None
+fourth x y z [] h = absurd (omega arith)
+fourth x y z (w ∷ more) h = refl
+
+pub four_pieces : (words x y z : List ℕ) (after_x after_y after_z : Bor (List ℕ)) → pieces_of words ≡ x ∷ pieces_of after_x.now → pieces_of after_x.now ≡ y ∷ pieces_of after_y.now → pieces_of after_y.now ≡ z ∷ pieces_of after_z.now → first_position (pieces_of words) ≡ None
+four_pieces words x y z after_x after_y after_z px py pz =
+    ap first_position (px ∙ ap (λ l. x ∷ l) (py ∙ ap (λ l. y ∷ l) pz)) ∙ fourth x y z (pieces_of after_z.now) (omega (arith, length-slice_split (λ b. b == 32) after_z.now))
+
+pub rest_is : (o : Option (Bor (List ℕ))) → is_some o ≡ true → (rest : Bor (List ℕ)) × (o ≡ Some rest)
+rest_is None h = cc
+rest_is (Some rest) h = (rest, refl)
 
 -- ---- the corners of a face
 abbrev pub before : List Corner → Option (List Corner) → Option (List Corner)

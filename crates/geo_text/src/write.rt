@@ -1,5 +1,5 @@
 // Geometries written as OBJ texts.
-ghost use Rattle.std.specs.Prelude.{◌≡◌, ◌<◌, ◌≤◌, ◌+◌, ◌-◌, ◌++◌, IfOk, OnOk, Some, length, take, drop, slice_get};
+ghost use Rattle.std.specs.Prelude.{◌≡◌, ◌<◌, ◌≤◌, ◌+◌, ◌-◌, ◌++◌, IfOk, OnOk, Some, length, take, drop, slice_get, codes, if◌then◌else◌};
 ghost use Rattle.std.specs.List.{flat_map};
 ghost use Rattle.std.specs.Option.{option_map};
 ghost use Rattle.sop_model.specs.Geometry.{IsReadable, HasOnlyPosition};
@@ -77,10 +77,17 @@ fn write_prim<V: GeoView>(view: &V, prim: u32, text: &mut Vec<u8>) -> Result<(),
 {
     let first = view.first_vertex(prim);
     let size = view.size(prim);
-    let keyword: &[u8] = if view.closed(prim) { b"f" } else { b"l" };
-    text.extend_from_slice(keyword)?;
+    text.extend_from_slice(keyword(view.closed(prim)))?;
     write_references(view, first, size, text)?;
-    text.extend_from_slice(b"\n")
+    text.extend_from_slice(b"\n")?;
+    Ok(())
+}
+
+/// The first word of a primitive's line.
+fn keyword(closed: bool) -> &'static [u8]
+    ensures { result.now ≡ (if closed then codes "f" else codes "l") }
+{
+    if closed { b"f" } else { b"l" }
 }
 
 /// The references of `size` vertices from `first` on.
