@@ -1,13 +1,14 @@
 -- A text of the first form gives a well made geometry within the limits, with `P` alone.
-use Rattle.std.proofs.Common.{◌≡◌, ℕ, ◌+◌, ◌*◌, ◌<◌, ◌≤◌, List, [], ◌∷◌, ◌++◌, length, map, subst, Bool, true, refl, sym, ap, ◌∙◌, arith, lit≤}
-use Rattle.std.specs.Prelude.{◌&&◌, nat_le, nat_lt, IsTrue, sum_by, All}
+use Rattle.std.proofs.Common.{◌≡◌, ℕ, ◌+◌, ◌*◌, ◌<◌, ◌≤◌, List, [], ◌∷◌, ◌++◌, length, map, subst, Bool, true, refl, sym, ap, ◌∙◌, arith, lit≤, false, inl, inr, Option, Some, None}
+use Rattle.std.specs.Prelude.{◌&&◌, nat_le, nat_lt, sum_by, All, Result, Ok, Err}
 use Rattle.std.specs.List.{list_all, flat_map}
-use Rattle.std.proofs.lemmas.Bool.{and_parts}
+use Rattle.std.proofs.lemmas.Bool.{and_parts, cases_Bool}
 use Rattle.std.proofs.lemmas.Bool.Decides.{nat_tests}
 use Rattle.std.proofs.lemmas.List.Elements.{All-nil, All-cons, All-head, All-tail, All-append, All-weaker, All-map}
 use Rattle.std.proofs.lemmas.List.Sums.{sum_by-le}
 use Rattle.sop_model.specs.declared.class.Class.{Class}
 use Rattle.sop_model.specs.declared.class.Class.TheVariants.{Detail, Prim, Point, Vertex}
+use Rattle.sop_model.specs.declared.geo.Geo.{Geo}
 use Rattle.sop_model.specs.declared.geo.Row.{Row}
 use Rattle.sop_model.specs.declared.geo.Corner.{Corner}
 use Rattle.sop_model.specs.declared.geo.HeadSet.{HeadSet}
@@ -15,8 +16,10 @@ use Rattle.sop_model.specs.declared.geo.Primitive.{Primitive}
 use Rattle.sop_model.specs.Geometry.{empty_row, no_heads, only_position, heads_of, rows_of, row_weight, geo_weight, IsNamed, IsRowOf, IsSound, IsGood, IsWithin, Fits, HasOnlyPosition}
 use Rattle.sop_model.specs.Vertices.{size_of, corners_of}
 use Rattle.geo_text.specs.declared.sheet.Sheet.{Sheet}
-use Rattle.geo_text.specs.ObjReading.{geo_of}
-use Rattle.geo_text.specs.ObjFirst.{are_corners_within, are_within, is_small}
+use Rattle.geo_text.specs.ObjReading.{geo_of, lines_of, worded_lines, positions_in, obj_geo, Refusal, Limit}
+use Rattle.geo_text.specs.ObjForm.{has_first_form, has_line_form, ends_with_line_feed}
+use Rattle.geo_text.specs.ObjFirst.{are_corners_within, are_within, is_small, first_sheet}
+use Rattle.geo_text.proofs.Sheets.{text_without, text_within, text_means, text_too_large, text_plain}
 use Rattle.geo_text.proofs.Plain.{IsPointRow, IsPlainCorner, IsFace, IsPlainSheet}
 
 pub only_position_of : (s : Sheet) → HasOnlyPosition (geo_of s)
@@ -146,3 +149,35 @@ fits_of s plain small =
       };
       weight = omega (arith, weight_of_sheet s plain, points);
     }
+
+-- ---- what a text of the first form gives, from its definitions alone
+pub record IsReadGeo (g : Geo) : Type 0 where
+  pub good : IsGood g
+  pub fits : Fits g
+  pub position : HasOnlyPosition g
+  pub weight : geo_weight g ≤ 3 * length g.points
+
+read_geo_of : (s : Sheet) → IsPlainSheet s → are_within (length s.points) s.prims ≡ true → is_small s ≡ true → IsReadGeo (geo_of s)
+read_geo_of s plain within small = record { good = good_of s plain within; fits = fits_of s plain small; position = only_position_of s; weight = weight_of_sheet s plain }
+
+not_false : true ≡ false → ⊥
+not_false e = cc
+
+same_geo : (r : Result Geo Refusal) (g h : Geo) → r ≡ Ok g → r ≡ Ok h → h ≡ g
+same_geo r g h e f = let both : ◌≡◌ {A = Result Geo Refusal} (Ok h) (Ok g) = sym f ∙ e in cc
+
+not_limit : (r : Result Geo Refusal) (g : Geo) → r ≡ Ok g → r ≡ Err Limit → ⊥
+not_limit r g e f = let both : ◌≡◌ {A = Result Geo Refusal} (Ok g) (Err Limit) = sym e ∙ f in cc
+
+read_geo_from : (bytes : List ℕ) (g : Geo) (o : Option Sheet) → first_sheet (lines_of bytes) ≡ o → has_first_form bytes ≡ true → obj_geo bytes ≡ Ok g → IsReadGeo g
+read_geo_from bytes g None none form means = absurd (not_false (sym form ∙ text_without bytes none))
+read_geo_from bytes g (Some s) some form means =
+    let ended = (and_parts (ends_with_line_feed bytes) (list_all (has_line_form (positions_in (worded_lines bytes))) (lines_of bytes)) form).0 in
+    let within = sym (text_within bytes s some ended) ∙ form in
+    elim (cases_Bool (is_small s)) [
+      inl small ↦ subst IsReadGeo (same_geo (obj_geo bytes) g (geo_of s) means (text_means bytes s some small within)) (read_geo_of s (text_plain bytes s some) within small)
+    | inr large ↦ absurd (not_limit (obj_geo bytes) g means (text_too_large bytes s some large))
+    ]
+
+pub first_form_read : (bytes : List ℕ) (g : Geo) → has_first_form bytes ≡ true → obj_geo bytes ≡ Ok g → IsReadGeo g
+first_form_read bytes g form means = read_geo_from bytes g (first_sheet (lines_of bytes)) refl form means

@@ -3,5 +3,6 @@ pub mod Words
 pub mod Lines
 pub mod Sheets
 pub mod Goodness
-pub mod Steps
-pub mod Writing
+mod Steps
+mod Writing
+mod Examples

@@ -1,6 +1,6 @@
 -- Steps of the loops that read.
 use Rattle.std.proofs.Common.{◌≡◌, ℕ, suc, ◌+◌, ◌-◌, ◌*◌, ◌^◌, ◌<◌, ◌≤◌, List, [], ◌∷◌, ◌++◌, length, get_or, take, drop, drop-cons, add-one, append_assoc, append-nil, length-append, length-drop, zero, Bool, true, false, not, refl, sym, ap, subst, ◌∙◌, arith, Option, Some, None, inl, inr, cond, lit≤}
-use Rattle.std.specs.Prelude.{◌&&◌, ◌==◌, nat_lt, nat_le, IfSome, is_some, position, sum_by, codes, if◌then◌else◌}
+use Rattle.std.specs.Prelude.{◌&&◌, ◌==◌, nat_lt, nat_le, IfSome, Result, Err, is_some, position, sum_by, codes, if◌then◌else◌}
 use Rattle.std.specs.Borrow.{Bor}
 use Rattle.std.specs.List.{list_all, position_or_len, slice_split, onto_first}
 use Rattle.std.specs.Char.{is_ascii_digit}
@@ -17,6 +17,8 @@ use Rattle.sop_model.specs.declared.geo.Corner.{Corner}
 use Rattle.sop_model.specs.declared.geo.Primitive.{Primitive}
 use Rattle.sop_model.specs.Vertices.{corners_of, size_of, first_vertex_in}
 use Rattle.sop_model.specs.Geometry.{empty_row}
+use Rattle.sop_model.specs.declared.geo.Geo.{Geo}
+use Rattle.geo_text.specs.declared.fault.ObjFault.{ObjFault}
 use Rattle.geo_text.specs.declared.part.Part.{Part}
 use Rattle.geo_text.specs.declared.part.Part.TheVariants.{Nothing, Position, Face}
 use Rattle.geo_text.specs.declared.sheet.Sheet.{Sheet}
@@ -195,3 +197,6 @@ onto_long front (Some (Face corners)) (Some s) h =
 -- ---- the vertices of a list of primitives
 pub length-corners_of : (prims : List Primitive) → length (corners_of prims) ≡ first_vertex_in prims (length prims)
 length-corners_of prims = length-flat_map (λ p. p.corners) prims ∙ ap (sum_by size_of) (sym (take_all (length prims) prims (omega arith)))
+
+pub same_fault : (a b : ObjFault) → ◌≡◌ {A = Result Geo ObjFault} (Err a) (Err b) → a ≡ b
+same_fault a b e = cc

@@ -10,3 +10,6 @@ mod write;
 pub use fault::ObjFault;
 pub use read::read_obj;
 pub use write::write_obj;
+
+#[cfg(test)]
+mod tests;

@@ -1,14 +1,17 @@
 use Rattle.std.proofs.Common.{◌≡◌, Ok, Err, inl, sym, ap, ◌∙◌, subst}
+use Rattle.std.proofs.lemmas.Result.{err_from_is_err_and}
 use Rattle.sop_model.specs.Geometry.{IsGood, Fits}
 use Rattle.geo_text.specs.declared.fault.ObjFault.TheVariants.{NotYet}
 use Rattle.geo_text.proofs.Goodness.{good_of, fits_of}
+use Rattle.geo_text.proofs.Steps.{same_fault}
 use Rattle.geo_text.proofs.Sheets.{text_refused, text_within, text_means, text_plain}
 use Rattle.geo_text.proofs.read.read_obj.Goals as goal
 
 pub returns-in_err-sheet-clause-not_yet : goal.returns-in_err-sheet-clause-not_yet
 returns-in_err-sheet-clause-not_yet c = λ e.
-    let failed : c.read_lines.result ≡ Err NotYet = cc in
-    text_refused c.args.bytes.now (c.read_lines.ensures.not_yet failed)
+    let given = err_from_is_err_and c.from_residual.result c.from_residual.ensures.1 in
+    let fault = sym given.2 ∙ same_fault given.0 NotYet (sym given.1 ∙ e) in
+    text_refused c.args.bytes.now (c.in_err-sheet.ensures.not_yet (ap Err fault))
 
 pub returns-then-not-is_within-clause-not_yet : goal.returns-then-not-is_within-clause-not_yet
 returns-then-not-is_within-clause-not_yet c = λ _.
