@@ -1,5 +1,5 @@
 -- The definitions, computed on small texts.
-use Rattle.std.proofs.Common.{◌≡◌, ℕ, List, [], ◌∷◌, ◌++◌, true, false, refl, Ok, Err}
+use Rattle.std.proofs.Common.{◌≡◌, ℕ, List, [], ◌∷◌, true, false, refl, Ok, Err}
 use Rattle.std.specs.Prelude.{ℤ, pos, negsuc, codes}
 use Rattle.std.specs.Fmt.{digits}
 use Rattle.sop_model.specs.declared.geo.Geo.{Geo}
@@ -7,7 +7,7 @@ use Rattle.sop_model.specs.declared.geo.Row.{Row}
 use Rattle.sop_model.specs.declared.geo.Corner.{Corner}
 use Rattle.sop_model.specs.declared.geo.Primitive.{Primitive}
 use Rattle.sop_model.specs.Geometry.{empty_row, empty_geo}
-use Rattle.geo_text.specs.ObjReading.{obj_geo, words_of, geo_of, point_row, face_of, Refusal, Number, Index}
+use Rattle.geo_text.specs.ObjReading.{obj_geo, words_of, point_row, face_of, Number, Index}
 use Rattle.geo_text.specs.ObjForm.{has_first_form}
 use Rattle.geo_text.specs.ObjWriting.{obj_text}
 

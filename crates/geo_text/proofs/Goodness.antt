@@ -1,7 +1,7 @@
 -- A text of the first form gives a well made geometry within the limits, with `P` alone.
-use Rattle.std.proofs.Common.{◌≡◌, ℕ, ◌+◌, ◌*◌, ◌<◌, ◌≤◌, List, [], ◌∷◌, ◌++◌, length, map, subst, Bool, true, refl, sym, ap, ◌∙◌, arith, lit≤, false, inl, inr, Option, Some, None}
-use Rattle.std.specs.Prelude.{◌&&◌, nat_le, nat_lt, sum_by, All, Result, Ok, Err}
-use Rattle.std.specs.List.{list_all, flat_map}
+use Rattle.std.proofs.Common.{◌≡◌, ℕ, ◌*◌, ◌<◌, ◌≤◌, List, [], ◌∷◌, length, subst, true, refl, sym, ◌∙◌, arith, lit≤, false, inl, inr, Option, Some, None}
+use Rattle.std.specs.Prelude.{◌&&◌, nat_le, nat_lt, All, Result, Ok, Err}
+use Rattle.std.specs.List.{list_all}
 use Rattle.std.proofs.lemmas.Bool.{and_parts, cases_Bool}
 use Rattle.std.proofs.lemmas.Bool.Decides.{nat_tests}
 use Rattle.std.proofs.lemmas.List.Elements.{All-nil, All-cons, All-head, All-tail, All-append, All-weaker, All-map}
@@ -13,7 +13,7 @@ use Rattle.sop_model.specs.declared.geo.Row.{Row}
 use Rattle.sop_model.specs.declared.geo.Corner.{Corner}
 use Rattle.sop_model.specs.declared.geo.HeadSet.{HeadSet}
 use Rattle.sop_model.specs.declared.geo.Primitive.{Primitive}
-use Rattle.sop_model.specs.Geometry.{empty_row, no_heads, only_position, heads_of, rows_of, row_weight, geo_weight, IsNamed, IsRowOf, IsSound, IsGood, IsWithin, Fits, HasOnlyPosition}
+use Rattle.sop_model.specs.Geometry.{empty_row, no_heads, only_position, heads_of, rows_of, row_weight, geo_weight, IsNamed, IsRowOf, IsGood, Fits, HasOnlyPosition}
 use Rattle.sop_model.specs.Vertices.{size_of, corners_of}
 use Rattle.geo_text.specs.declared.sheet.Sheet.{Sheet}
 use Rattle.geo_text.specs.ObjReading.{geo_of, lines_of, worded_lines, positions_in, obj_geo, Refusal, Limit}

@@ -1,7 +1,7 @@
 -- What one line of the first form says is what it means in any text with points enough.
-use Rattle.std.proofs.Common.{◌≡◌, ℕ, suc, ◌+◌, ◌-◌, ◌<◌, ◌≤◌, List, [], ◌∷◌, length, subst, inl, inr, ◌⊎◌, Bool, true, false, not, refl, sym, ap, ◌∙◌, arith, Option, Some, None}
+use Rattle.std.proofs.Common.{◌≡◌, ℕ, suc, ◌-◌, ◌<◌, ◌≤◌, List, [], ◌∷◌, length, subst, inl, inr, ◌⊎◌, Bool, true, false, not, refl, sym, ap, ◌∙◌, arith, Option, Some, None}
 use Rattle.std.specs.Prelude.{◌&&◌, ◌||◌, ◌==◌, if◌then◌else◌, nat_le, nat_lt, Result, Ok, Err, is_ok, ℤ, codes, All}
-use Rattle.std.specs.List.{list_all, slice_split, onto_first}
+use Rattle.std.specs.List.{list_all}
 use Rattle.std.specs.Char.{is_ascii_digit}
 use Rattle.std.specs.Option.{option_map}
 use Rattle.std.specs.Result.{result_ok}
@@ -17,9 +17,9 @@ use Rattle.sop_model.specs.declared.geo.Corner.{Corner}
 use Rattle.sop_model.specs.Geometry.{empty_row}
 use Rattle.geo_text.specs.declared.part.Part.{Part}
 use Rattle.geo_text.specs.declared.part.Part.TheVariants.{Nothing, Position, Face}
-use Rattle.geo_text.specs.ObjReading.{is_blank, is_filled, words_of, is_position_line, references_of, Refusal, Number, Index, Limit, part_of, position_part, face_part, corner_of, each_of, put_first, map_ok}
-use Rattle.geo_text.specs.ObjForm.{pieces_of, is_word, are_three_numerals, is_point_number, are_point_numbers, have_form, has_line_form}
-use Rattle.geo_text.specs.ObjFirst.{first_coordinate, first_vector, first_position, first_corner, first_corners, first_face, first_words, first_part, before_others, are_corners_within, vertices_of}
+use Rattle.geo_text.specs.ObjReading.{is_blank, is_filled, is_position_line, references_of, part_of, corner_of, each_of}
+use Rattle.geo_text.specs.ObjForm.{is_word, are_three_numerals, is_point_number, are_point_numbers, have_form}
+use Rattle.geo_text.specs.ObjFirst.{first_coordinate, first_vector, first_position, first_corner, first_corners, first_face, first_words, before_others, are_corners_within, vertices_of}
 use Rattle.geo_text.proofs.Plain.{IsPlainCorner, IsPlainPart}
 
 abbrev pub part_within : ℕ → Part → Bool

@@ -1,5 +1,5 @@
 -- Points and primitives that have the position and nothing else.
-use Rattle.std.proofs.Common.{◌≡◌, ℕ, ◌<◌, length, List}
+use Rattle.std.proofs.Common.{◌≡◌, ◌<◌, length}
 use Rattle.std.specs.Prelude.{All}
 use Rattle.sop_fixed.specs.declared.vec3.Vec3.{Vec3}
 use Rattle.sop_model.specs.declared.geo.Row.{Row}

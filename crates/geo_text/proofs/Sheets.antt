@@ -1,22 +1,20 @@
 -- The lines of a text of the first form, taken together.
-use Rattle.std.proofs.Common.{◌≡◌, ℕ, suc, ◌+◌, ◌-◌, ◌<◌, ◌≤◌, List, [], ◌∷◌, ◌++◌, length, map, subst, inl, inr, ◌⊎◌, Bool, true, false, not, refl, sym, ap, ◌∙◌, arith, Option, Some, None, length-append, append_assoc, drop}
-use Rattle.std.specs.Prelude.{◌&&◌, ◌||◌, if◌then◌else◌, nat_le, nat_lt, Result, Ok, Err, IfSome}
+use Rattle.std.proofs.Common.{◌≡◌, ℕ, ◌+◌, List, [], ◌∷◌, length, map, subst, inl, inr, ◌⊎◌, true, false, not, refl, sym, ap, ◌∙◌, arith, Option, Some, None, length-append}
+use Rattle.std.specs.Prelude.{◌&&◌, ◌||◌, if◌then◌else◌, nat_le, nat_lt, Ok, Err, IfSome}
 use Rattle.std.specs.List.{list_all}
-use Rattle.std.specs.Option.{option_map}
-use Rattle.std.proofs.lemmas.Bool.{and_parts, and_from, and_left, and_right, false_from_ne_true}
+use Rattle.std.proofs.lemmas.Bool.{and_parts, and_left, and_right, false_from_ne_true}
 use Rattle.std.proofs.lemmas.Bool.Decides.{nat_tests}
 use Rattle.std.proofs.lemmas.List.Elements.{All-nil, All-cons}
-use Rattle.sop_model.specs.declared.geo.Geo.{Geo}
 use Rattle.sop_model.specs.Vertices.{corners_of}
 use Rattle.geo_text.specs.declared.part.Part.{Part}
 use Rattle.geo_text.specs.declared.part.Part.TheVariants.{Nothing, Position, Face}
 use Rattle.geo_text.specs.declared.sheet.Sheet.{Sheet}
-use Rattle.geo_text.specs.ObjReading.{lines_of, words_of, worded_lines, positions_in, references_in, faces_in, is_filled, is_position_line, references_of, Refusal, Limit, part_of, point_row, face_of, with_part, joined, map_ok, sheet_from, passes_limits, geo_of, geo_of_lines, obj_geo}
+use Rattle.geo_text.specs.ObjReading.{lines_of, words_of, worded_lines, positions_in, references_in, faces_in, is_filled, is_position_line, references_of, Limit, part_of, point_row, face_of, with_part, sheet_from, passes_limits, geo_of, obj_geo}
 use Rattle.geo_text.specs.ObjForm.{pieces_of, is_word, have_form, has_line_form, ends_with_line_feed, has_first_form}
-use Rattle.geo_text.specs.ObjFirst.{first_words, first_part, first_joined, first_sheet, are_within, onto, is_small, vertices_of}
+use Rattle.geo_text.specs.ObjFirst.{first_words, first_part, first_joined, first_sheet, are_within, is_small, vertices_of}
 use Rattle.geo_text.proofs.Plain.{IsPointRow, IsFace, IsPlainPart, IsPlainSheet}
 use Rattle.geo_text.proofs.Words.{words_are_pieces}
-use Rattle.geo_text.proofs.Lines.{Says, words_say, words_complete, part_within, points_of, prims_of}
+use Rattle.geo_text.proofs.Lines.{words_say, words_complete, part_within, points_of, prims_of}
 
 -- ---- one line
 pub record LineSays (total : ℕ) (line : List ℕ) (part : Part) : Type 0 where

@@ -1,14 +1,14 @@
 -- Steps of the loops that read.
-use Rattle.std.proofs.Common.{◌≡◌, ℕ, suc, ◌+◌, ◌-◌, ◌*◌, ◌^◌, ◌<◌, ◌≤◌, List, [], ◌∷◌, ◌++◌, length, get_or, take, drop, drop-cons, add-one, append_assoc, append-nil, length-append, length-drop, zero, Bool, true, false, not, refl, sym, ap, subst, ◌∙◌, arith, Option, Some, None, inl, inr, cond, lit≤}
+use Rattle.std.proofs.Common.{◌≡◌, ℕ, suc, ◌+◌, ◌-◌, ◌*◌, ◌^◌, ◌<◌, ◌≤◌, List, [], ◌∷◌, ◌++◌, length, get_or, take, drop, drop-cons, add-one, append_assoc, append-nil, length-append, length-drop, zero, Bool, true, false, not, refl, sym, ap, ◌∙◌, arith, Option, Some, None, cond, lit≤}
 use Rattle.std.specs.Prelude.{◌&&◌, ◌==◌, nat_lt, nat_le, IfSome, Result, Err, is_some, position, sum_by, codes, if◌then◌else◌}
 use Rattle.std.specs.Borrow.{Bor}
 use Rattle.std.specs.List.{list_all, position_or_len, slice_split, onto_first}
 use Rattle.std.specs.Char.{is_ascii_digit}
 use Rattle.std.specs.Option.{option_map}
 use Rattle.std.proofs.Math.Nat.{pow-suc, pow-le-pow_right}
-use Rattle.std.proofs.lemmas.Bool.{and_parts, cases_Bool}
+use Rattle.std.proofs.lemmas.Bool.{and_parts}
 use Rattle.std.proofs.lemmas.Bool.Decides.{nat_tests}
-use Rattle.std.proofs.lemmas.List.{take_all}
+use Rattle.std.proofs.lemmas.List.{take_all, drop_all}
 use Rattle.std.proofs.lemmas.List.Concat.{flat_map-append, length-flat_map}
 use Rattle.std.proofs.lemmas.List.Splits.{slice_split_first, slice_split-cons_no, length-slice_split}
 use Rattle.sop_fixed.specs.Numerals.{number_of}
@@ -17,17 +17,19 @@ use Rattle.sop_model.specs.declared.geo.Corner.{Corner}
 use Rattle.sop_model.specs.declared.geo.Primitive.{Primitive}
 use Rattle.sop_model.specs.Vertices.{corners_of, size_of, first_vertex_in}
 use Rattle.sop_model.specs.Geometry.{empty_row}
-use Rattle.sop_model.specs.declared.geo.Geo.{Geo}
 use Rattle.geo_text.specs.declared.fault.ObjFault.{ObjFault}
 use Rattle.geo_text.specs.declared.part.Part.{Part}
 use Rattle.geo_text.specs.declared.part.Part.TheVariants.{Nothing, Position, Face}
 use Rattle.geo_text.specs.declared.sheet.Sheet.{Sheet}
-use Rattle.geo_text.specs.ObjReading.{is_filled, with_part}
+use Rattle.geo_text.specs.ObjReading.{is_filled}
 use Rattle.geo_text.specs.ObjForm.{pieces_of}
-use Rattle.geo_text.specs.ObjFirst.{first_corner, first_corners, first_face, first_position, first_words, pieces_left, first_part, first_joined, first_sheet, onto, is_small, vertices_of, before_others}
+use Rattle.geo_text.specs.ObjFirst.{first_corner, first_corners, first_face, first_position, first_words, first_part, first_joined, first_sheet, onto, is_small, vertices_of, before_others}
 
 pub drop_here : {A : Type 0} (all : List A) (i : ℕ) (x : A) → i < length all → x ≡ get_or all i x → drop i all ≡ x ∷ drop (i + 1) all
 drop_here all i x lt is = rw add-one (drop-cons all i x lt ∙ ap (λ y. y ∷ drop (suc i) all) (sym is))
+
+pub drop_ended : {A : Type 0} (n : ℕ) (all : List A) → n ≡ length all → drop n all ≡ []
+drop_ended n all e = drop_all n all (omega arith)
 
 -- ---- digits
 pub on_cons : (number c : ℕ) (rest : List ℕ) → (number * 10 + (c - 48)) * 10 ^ length rest + number_of rest ≡ number * 10 ^ length (c ∷ rest) + number_of (c ∷ rest)
@@ -198,5 +200,5 @@ onto_long front (Some (Face corners)) (Some s) h =
 pub length-corners_of : (prims : List Primitive) → length (corners_of prims) ≡ first_vertex_in prims (length prims)
 length-corners_of prims = length-flat_map (λ p. p.corners) prims ∙ ap (sum_by size_of) (sym (take_all (length prims) prims (omega arith)))
 
-pub same_fault : (a b : ObjFault) → ◌≡◌ {A = Result Geo ObjFault} (Err a) (Err b) → a ≡ b
+pub same_fault : {T : Type 0} (a b : ObjFault) → ◌≡◌ {A = Result T ObjFault} (Err a) (Err b) → a ≡ b
 same_fault a b e = cc

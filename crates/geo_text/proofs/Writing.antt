@@ -1,27 +1,22 @@
 -- What a view of a geometry with `P` alone gives, as its text wants it.
-use Rattle.std.proofs.Common.{◌≡◌, ℕ, zero, suc, ◌+◌, ◌-◌, ◌<◌, ◌≤◌, List, [], ◌∷◌, ◌++◌, length, map, get_or, take, drop, add-one, append_assoc, append-nil, length-append, length-drop, refl, sym, ap, subst, ◌∙◌, arith, Option, Some, None, Bool}
-use Rattle.std.specs.Prelude.{slice_get, sum_by, codes, if◌then◌else◌}
+use Rattle.std.proofs.Common.{◌≡◌, ℕ, zero, suc, ◌+◌, ◌<◌, ◌≤◌, List, [], ◌∷◌, ◌++◌, length, map, get_or, take, drop, append_assoc, append-nil, length-append, refl, sym, ap, subst, ◌∙◌, arith, Option, Some, None, Bool}
+use Rattle.std.specs.Prelude.{slice_get, codes, if◌then◌else◌}
 use Rattle.std.specs.List.{flat_map}
 use Rattle.std.specs.Option.{option_map, option_and_then}
-use Rattle.std.proofs.lemmas.List.{take_all}
 use Rattle.std.proofs.lemmas.List.Sums.{sum_by-cons}
-use Rattle.std.proofs.lemmas.List.Concat.{flat_map-append}
 use Rattle.std.proofs.lemmas.Option.{slice_get-get_or}
 use Rattle.sop_fixed.specs.declared.vec3.Vec3.{Vec3}
 use Rattle.sop_model.specs.declared.class.Class.TheVariants as class
 use Rattle.sop_model.specs.declared.geo.Geo.{Geo}
-use Rattle.sop_model.specs.declared.geo.Row.{Row}
-use Rattle.sop_model.specs.declared.geo.Head.{Head}
-use Rattle.sop_model.specs.declared.geo.Corner.{Corner}
 use Rattle.sop_model.specs.declared.geo.Primitive.{Primitive}
 use Rattle.sop_model.specs.declared.value.Kind.TheVariants as kind
 use Rattle.sop_model.specs.declared.value.Value.{Value}
 use Rattle.sop_model.specs.declared.value.ValueRef.{ValueRef}
 use Rattle.sop_model.specs.declared.value.ValueRef.TheVariants as ref
 use Rattle.sop_model.specs.Values.{kind_of, value_seen}
-use Rattle.sop_model.specs.Geometry.{empty_row, only_position, value_at, IsRowOf, IsReadable, HasOnlyPosition}
+use Rattle.sop_model.specs.Geometry.{empty_row, value_at, IsReadable, HasOnlyPosition}
 use Rattle.sop_model.specs.Vertices.{size_of, corners_of, first_vertex_in}
-use Rattle.geo_text.specs.ObjWriting.{place_of, position_line, reference_text, point_text, primitive_line}
+use Rattle.geo_text.specs.ObjWriting.{reference_text, primitive_line}
 
 -- ---- the value of `P` is a vector
 first_kind : (values : List Value) (v : Value) → map kind_of values ≡ kind.Vector ∷ [] → slice_get values 0 ≡ Some v → kind_of v ≡ kind.Vector

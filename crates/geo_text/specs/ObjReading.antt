@@ -2,7 +2,7 @@
 --
 -- A text is cut into lines, and a line into words. Each line says something by its first word: `v` a point, `f` a closed
 -- primitive, and every other word nothing. The points and primitives come in the order of their lines.
-use Rattle.std.specs.Prelude.{ℕ, ◌+◌, ◌-◌, Bool, true, false, if◌then◌else◌, ◌&&◌, ◌||◌, nat_le, nat_lt, ◌==◌, List, [], ◌∷◌, length, map, filter, not, Option, None, Some, Result, Ok, Err, ℤ, codes}
+use Rattle.std.specs.Prelude.{ℕ, ◌+◌, ◌-◌, Bool, true, false, if◌then◌else◌, ◌||◌, nat_le, nat_lt, ◌==◌, List, [], ◌∷◌, length, map, filter, not, Option, None, Some, Result, Ok, Err, ℤ, codes}
 use Rattle.std.specs.List.{slice_split}
 use Rattle.std.specs.Str.{bytes_eq}
 use Rattle.sop_fixed.specs.Numerals.{has_minus, after_sign, is_some_digits, number_of, value_of}

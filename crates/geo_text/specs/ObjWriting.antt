@@ -1,6 +1,6 @@
 -- The OBJ text of a geometry: a line `v x y z` for each point, then a line for each primitive, `f` where it is closed and
 -- `l` where it is open, with the numbers of its points from 1. Each line ends with LF.
-use Rattle.std.specs.Prelude.{ℕ, ◌+◌, if◌then◌else◌, List, [], ◌∷◌, ◌++◌, Option, None, Some, slice_get, ℤ, pos, codes, decimal}
+use Rattle.std.specs.Prelude.{ℕ, ◌+◌, if◌then◌else◌, List, ◌++◌, Option, Some, slice_get, pos, codes, decimal}
 use Rattle.std.specs.List.{flat_map}
 use Rattle.sop_fixed.specs.Numerals.{decimal_of}
 use Rattle.sop_fixed.specs.declared.vec3.Vec3.{Vec3}

@@ -1,4 +1,4 @@
-use Rattle.std.proofs.Common.{◌≡◌, ◌+◌, ◌*◌, ◌^◌, ap, ◌∙◌, arith, get_or, drop, length}
+use Rattle.std.proofs.Common.{◌+◌, ◌*◌, ◌^◌, ap, ◌∙◌, arith, get_or, drop, length}
 use Rattle.sop_fixed.specs.Numerals.{number_of}
 use Rattle.geo_text.proofs.Steps.{digits_on, digit_between, below_power, below_million}
 use Rattle.geo_text.proofs.read.number_of.Goals as goal

@@ -1,4 +1,4 @@
-use Rattle.std.proofs.Common.{◌≡◌, ◌≤◌, length, drop}
+use Rattle.std.proofs.Common.{◌≡◌, length, drop}
 use Rattle.geo_text.specs.ObjForm.{pieces_of}
 use Rattle.geo_text.specs.ObjFirst.{first_corners}
 use Rattle.geo_text.proofs.Steps.{before}

@@ -1,4 +1,4 @@
-use Rattle.std.proofs.Common.{◌≡◌, Ok, Err, inl, sym, ap, ◌∙◌, subst}
+use Rattle.std.proofs.Common.{Ok, Err, inl, sym, ap, ◌∙◌, subst}
 use Rattle.std.proofs.lemmas.Result.{err_from_is_err_and}
 use Rattle.sop_model.specs.Geometry.{IsGood, Fits}
 use Rattle.geo_text.specs.declared.fault.ObjFault.TheVariants.{NotYet}

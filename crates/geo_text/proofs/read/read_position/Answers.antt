@@ -1,4 +1,4 @@
-use Rattle.std.proofs.Common.{◌≡◌, ◌∷◌, sym, ap, ◌∙◌}
+use Rattle.std.proofs.Common.{◌∷◌, sym, ap, ◌∙◌}
 use Rattle.geo_text.specs.ObjFirst.{pieces_left}
 use Rattle.geo_text.proofs.Steps.{four_pieces, rest_is}
 use Rattle.geo_text.proofs.read.read_position.Goals as goal

@@ -1,4 +1,4 @@
-use Rattle.std.proofs.Common.{◌==◌, sym, ◌∙◌}
+use Rattle.std.proofs.Common.{◌==◌, sym}
 use Rattle.geo_text.proofs.Steps.{split_some, split_none}
 use Rattle.geo_text.proofs.read.split_word.Goals as goal
 
