@@ -175,8 +175,8 @@ read_geo_from bytes g (Some s) some form means =
     let ended = (and_parts (ends_with_line_feed bytes) (list_all (has_line_form (positions_in (worded_lines bytes))) (lines_of bytes)) form).0 in
     let within = sym (text_within bytes s some ended) ∙ form in
     elim (cases_Bool (is_small s)) [
-      inl small ↦ subst IsReadGeo (same_geo (obj_geo bytes) g (geo_of s) means (text_means bytes s some small within)) (read_geo_of s (text_plain bytes s some) within small)
-    | inr large ↦ absurd (not_limit (obj_geo bytes) g means (text_too_large bytes s some large))
+      | inl small ↦ subst IsReadGeo (same_geo (obj_geo bytes) g (geo_of s) means (text_means bytes s some small within)) (read_geo_of s (text_plain bytes s some) within small)
+      | inr large ↦ absurd (not_limit (obj_geo bytes) g means (text_too_large bytes s some large))
     ]
 
 pub first_form_read : (bytes : List ℕ) (g : Geo) → has_first_form bytes ≡ true → obj_geo bytes ≡ Ok g → IsReadGeo g

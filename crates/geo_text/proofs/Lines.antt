@@ -154,8 +154,8 @@ corner_names total word c e =
       plain = sym (ap (λ k. k.row) is.1);
       form = form;
       means = λ within line so_far.
-        let fits : nat_le number total ≡ true = count ∙ ap (λ k. nat_lt k total) point ∙ within in
-        rw (word_is.1, word_is.2, digits, parts.1, fits) (ap Ok is.1);
+          let fits : nat_le number total ≡ true = count ∙ ap (λ k. nat_lt k total) point ∙ within in
+          rw (word_is.1, word_is.2, digits, parts.1, fits) (ap Ok is.1);
     }
 
 others_some : {A : Type 0} (o : Option A) (rest : Option (List A)) (ys : List A) → before_others o rest ≡ Some ys → (x : A) × (xs : List A) × (o ≡ Some x) × (rest ≡ Some xs) × (x ∷ xs ≡ ys)
@@ -184,8 +184,8 @@ corners_name total (word ∷ words) corners e =
       same_length = ap (λ n. suc n) rest.same_length;
       plain = All-cons IsPlainCorner c cs first.plain rest.plain;
       means = λ within line so_far.
-        let parts = and_parts (nat_lt c.point total) (are_corners_within total cs) within in
-        rw (first.means parts.0 line so_far, rest.means parts.1 line so_far);
+          let parts = and_parts (nat_lt c.point total) (are_corners_within total cs) within in
+          rw (first.means parts.0 line so_far, rest.means parts.1 line so_far);
     })
 
 face_says : (total : ℕ) (words : List (List ℕ)) (corners : List Corner) → first_face words ≡ Some corners → Says total (codes "f" ∷ words) (Face corners)
@@ -206,10 +206,10 @@ face_says total (word ∷ words) corners e =
 key_cases : (key : List ℕ) → (key ≡ codes "v") ⊎ ((key ≡ codes "f") ⊎ ((bytes_eq key (codes "v") ≡ false) × (bytes_eq key (codes "f") ≡ false)))
 key_cases key =
     elim (cases_Bool (bytes_eq key (codes "v"))) [
-      inl v ↦ inl ((bytes_eq-Decides key (codes "v")).0 v)
-    | inr not_v ↦ elim (cases_Bool (bytes_eq key (codes "f"))) [
-        inl f ↦ inr (inl ((bytes_eq-Decides key (codes "f")).0 f))
-      | inr not_f ↦ inr (inr (not_v, not_f))
+      | inl v ↦ inl ((bytes_eq-Decides key (codes "v")).0 v)
+      | inr not_v ↦ elim (cases_Bool (bytes_eq key (codes "f"))) [
+        | inl f ↦ inr (inl ((bytes_eq-Decides key (codes "f")).0 f))
+        | inr not_f ↦ inr (inr (not_v, not_f))
       ]
     ]
 
@@ -227,10 +227,10 @@ pub words_say : (total : ℕ) (words : List (List ℕ)) (part : Part) → first_
 words_say total [] part e = cc
 words_say total (key ∷ words) part e =
     elim (key_cases key) [
-      inl v ↦ (let P : List ℕ → Type 0 = λ k. first_words (k ∷ words) ≡ Some part → Says total (k ∷ words) part in subst P (sym v) (v_says total words part) e)
-    | inr other ↦ elim other [
-        inl f ↦ (let P : List ℕ → Type 0 = λ k. first_words (k ∷ words) ≡ Some part → Says total (k ∷ words) part in subst P (sym f) (f_says total words part) e)
-      | inr neither ↦ (let no : None ≡ Some part = rw (neither.0, neither.1) at e in cc)
+      | inl v ↦ (let P : List ℕ → Type 0 = λ k. first_words (k ∷ words) ≡ Some part → Says total (k ∷ words) part in subst P (sym v) (v_says total words part) e)
+      | inr other ↦ elim other [
+        | inl f ↦ (let P : List ℕ → Type 0 = λ k. first_words (k ∷ words) ≡ Some part → Says total (k ∷ words) part in subst P (sym f) (f_says total words part) e)
+        | inr neither ↦ (let no : None ≡ Some part = rw (neither.0, neither.1) at e in cc)
       ]
     ]
 
@@ -303,9 +303,9 @@ words_complete total [] w h = cc
 words_complete total (key ∷ words) w h =
     let P : List ℕ → Type 0 = λ k. list_all is_word (k ∷ words) ≡ true → have_form total (k ∷ words) ≡ true → (part : Part) × (first_words (k ∷ words) ≡ Some part) in
     elim (key_cases key) [
-      inl v ↦ subst P (sym v) (v_complete total words) w h
-    | inr other ↦ elim other [
-        inl f ↦ subst P (sym f) (f_complete total words) w h
-      | inr neither ↦ (let no : false ≡ true = rw (neither.0, neither.1) at h in absurd cc)
+      | inl v ↦ subst P (sym v) (v_complete total words) w h
+      | inr other ↦ elim other [
+        | inl f ↦ subst P (sym f) (f_complete total words) w h
+        | inr neither ↦ (let no : false ≡ true = rw (neither.0, neither.1) at h in absurd cc)
       ]
     ]

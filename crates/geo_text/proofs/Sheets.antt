@@ -50,9 +50,9 @@ line_without total [] e = cc
 line_without total (x ∷ xs) e =
     let pieces = pieces_of (x ∷ xs) in
     false_from_ne_true (list_all is_word pieces && have_form total pieces) (λ h.
-      let parts = and_parts (list_all is_word pieces) (have_form total pieces) h in
-      let (part, is) = words_complete total pieces parts.0 parts.1 in
-      none_some (first_words pieces) e part is)
+    let parts = and_parts (list_all is_word pieces) (have_form total pieces) h in
+    let (part, is) = words_complete total pieces parts.0 parts.1 in
+    none_some (first_words pieces) e part is)
 
 -- ---- all lines
 joined_some : (o : Option Part) (rest : Option Sheet) (s : Sheet) → first_joined o rest ≡ Some s → (part : Part) × (t : Sheet) × (o ≡ Some part) × (rest ≡ Some t) × (with_part part t ≡ s)
@@ -113,18 +113,18 @@ lines_say total (line ∷ lines) s e =
       faces = rw (first.faces, rest.faces) (prims_with part t);
       plain = plain_with part t first.plain rest.plain;
       means = λ within n so_far.
-        let parts = and_parts (part_within total part) (are_within total t.prims) (within_with total part t ∙ within) in
-        let now = first.means parts.0 n so_far in
-        let then_on = rest.means parts.1 (n + 1) (so_far + (if is_position_line (words_of line) then 1 else 0)) in
-        rw (now, then_on);
+          let parts = and_parts (part_within total part) (are_within total t.prims) (within_with total part t ∙ within) in
+          let now = first.means parts.0 n so_far in
+          let then_on = rest.means parts.1 (n + 1) (so_far + (if is_position_line (words_of line) then 1 else 0)) in
+          rw (now, then_on);
     })
 
 pub lines_without : (total : ℕ) (lines : List (List ℕ)) → first_sheet lines ≡ None → list_all (has_line_form total) lines ≡ false
 lines_without total [] e = cc
 lines_without total (line ∷ lines) e =
     elim (joined_none (first_part line) (first_sheet lines) e) [
-      inl none ↦ and_left (has_line_form total line) (list_all (has_line_form total) lines) (line_without total line none)
-    | inr none ↦ and_right (has_line_form total line) (list_all (has_line_form total) lines) (lines_without total lines none)
+      | inl none ↦ and_left (has_line_form total line) (list_all (has_line_form total) lines) (line_without total line none)
+      | inr none ↦ and_right (has_line_form total line) (list_all (has_line_form total) lines) (lines_without total lines none)
     ]
 
 -- ---- the whole text
@@ -146,14 +146,14 @@ module _ (bytes : List ℕ) (s : Sheet) (read : first_sheet (lines_of bytes) ≡
 
   pub text_means : is_small s ≡ true → are_within (length s.points) s.prims ≡ true → obj_geo bytes ≡ Ok (geo_of s)
   text_means small within =
-    let few : passes_limits (worded_lines bytes) ≡ false = rw (text_limits, small) in
-    let all : are_within (positions_in (worded_lines bytes)) s.prims ≡ true = ap (λ n. are_within n s.prims) say.points ∙ within in
-    rw (few, say.means all 1 0)
+      let few : passes_limits (worded_lines bytes) ≡ false = rw (text_limits, small) in
+      let all : are_within (positions_in (worded_lines bytes)) s.prims ≡ true = ap (λ n. are_within n s.prims) say.points ∙ within in
+      rw (few, say.means all 1 0)
 
   pub text_too_large : is_small s ≡ false → obj_geo bytes ≡ Err Limit
   text_too_large large =
-    let many : passes_limits (worded_lines bytes) ≡ true = rw (text_limits, large) in
-    rw many
+      let many : passes_limits (worded_lines bytes) ≡ true = rw (text_limits, large) in
+      rw many
 
   pub text_plain : IsPlainSheet s
   text_plain = say.plain

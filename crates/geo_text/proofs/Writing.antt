@@ -111,9 +111,9 @@ prim_text prims i first size closed old keyword keyed referred whole sized close
     let head : keyword ≡ (if p.closed then codes "f" else codes "l") = key ∙ ap (λ b. if b then codes "f" else codes "l") (sym shut) in
     let references = flat_map reference_text p.corners in
     let text : whole ≡ old ++ ((if p.closed then codes "f" else codes "l") ++ references ++ codes "\n") =
-      w ∙ ap (λ t. t ++ codes "\n") (r ∙ ap (λ l. keyed ++ flat_map reference_text l) corners ∙ ap (λ t. t ++ references) (k ∙ ap (λ l. old ++ l) head))
-      ∙ ap (λ t. t ++ codes "\n") (append_assoc old (if p.closed then codes "f" else codes "l") references)
-      ∙ append_assoc old ((if p.closed then codes "f" else codes "l") ++ references) (codes "\n") in
+    w ∙ ap (λ t. t ++ codes "\n") (r ∙ ap (λ l. keyed ++ flat_map reference_text l) corners ∙ ap (λ t. t ++ references) (k ∙ ap (λ l. old ++ l) head))
+    ∙ ap (λ t. t ++ codes "\n") (append_assoc old (if p.closed then codes "f" else codes "l") references)
+    ∙ append_assoc old ((if p.closed then codes "f" else codes "l") ++ references) (codes "\n") in
     ap (option_map (λ p. old ++ primitive_line p)) here ∙ ap Some (sym text)
 
 pub prims_more : (prims : List Primitive) (i : ℕ) (old text longer : List ℕ) → option_map (λ p. text ++ primitive_line p) (slice_get prims i) ≡ Some longer → text ≡ old ++ flat_map primitive_line (take i prims) → longer ≡ old ++ flat_map primitive_line (take (i + 1) prims)

@@ -123,7 +123,11 @@ fn read_position(words: &[u8]) -> Option<Vec3>
 fn read_coordinate(word: &[u8]) -> Option<Real>
     ensures { result ≡ first_coordinate word.now }
 {
-    if is_word(word) { read_numeral(word).ok() } else { None }
+    if is_word(word) {
+        read_numeral(word).ok()
+    } else {
+        None
+    }
 }
 
 fn is_word(piece: &[u8]) -> bool

@@ -13,7 +13,9 @@ use sop_outside::Items;
 use std::alloc::{AllocError, Global};
 
 const MOST_POINTS: usize = 1_000_000;
+
 const MOST_PRIMITIVES: usize = 1_000_000;
+
 const MOST_VERTICES: u64 = 4_000_000;
 
 /// The points and primitives of some lines, in order.
@@ -67,7 +69,10 @@ impl Sheet {
         ensures { result ≡ are_within (length self.now.points) self.now.prims }
     {
         let total = self.points.len();
-        self.prims.as_slice().iter().all(|prim| are_corners_within(total, prim.corners.as_slice()))
+        self.prims
+            .as_slice()
+            .iter()
+            .all(|prim| are_corners_within(total, prim.corners.as_slice()))
     }
 
     /// The geometry of these points and primitives, with the attribute `P` alone.

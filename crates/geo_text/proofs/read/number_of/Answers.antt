@@ -18,7 +18,7 @@ loop-digit-preserved c =
     let d = digit_between digits i c.requires.digits c.loop-digit-test.true in
     let below = below_power c.loop-digit.number i (get_or digits i 0) c.loop-digit.invariant.1 d.1 in (
       ap (λ x. (c.loop-digit.number * 10 + x) * 10 ^ length (drop (i + 1) digits) + number_of (drop (i + 1) digits)) c.from.ensures
-      ∙ digits_on c.loop-digit.number digits i c.loop-digit-test.true
-      ∙ c.loop-digit.invariant.0,
+          ∙ digits_on c.loop-digit.number digits i c.loop-digit-test.true
+          ∙ c.loop-digit.invariant.0,
       omega (arith, below, c.from.ensures),
     )

@@ -22,9 +22,9 @@ returns-then-len-gt-MOST_VERTICES-clause-not_yet c = λ _.
     let road = YieldsList-at c.into_iter-word-iterator.ensures.into_iter_gives (YieldsList-from_slice_split _ (λ b. b == 32) c.args.words.now c.split-word-items.ensures.rest c.split-word-items.ensures.done c.split-word-items.ensures.closure (search rules)) in
     let turn = YieldsList-turn road c.loop-word.yielded _ c.loop-word.yielded_by _ _ c.in-Some.word c.in-Some.is c.next.ensures.steps in
     let more : before c.add.new.self (first_corners (drop (i + 1) all)) ≡ first_corners all =
-      ap (λ cs. before cs (first_corners (drop (i + 1) all))) c.in_ok-add.ensures.ok
-      ∙ corners_more all i c.in-Some.word.now c.loop-word.corners turn.0 turn.1 c.in-Some-read_corner.corner (sym c.read_corner.ensures ∙ c.in-Some-read_corner.is)
-      ∙ c.loop-word.invariant in
+    ap (λ cs. before cs (first_corners (drop (i + 1) all))) c.in_ok-add.ensures.ok
+    ∙ corners_more all i c.in-Some.word.now c.loop-word.corners turn.0 turn.1 c.in-Some-read_corner.corner (sym c.read_corner.ensures ∙ c.in-Some-read_corner.is)
+    ∙ c.loop-word.invariant in
     subst (λ o. IfSome o (λ cs. 4000000 < length cs)) more (corners_many c.add.new.self (first_corners (drop (i + 1) all)) many)
 
 pub loop-word-preserved : goal.loop-word-preserved

@@ -17,7 +17,7 @@ returns-in-Err-clause-not_yet c = λ e.
     let fault = same_fault c.in-Err.fault NotYet e in
     let too_long = c.in-Err.ensures.not_yet (ap Err fault) in
     let whole : onto c.loop-line.sheet (first_joined (first_part c.in-Some.line.now) (first_sheet (drop (i + 1) all))) ≡ first_sheet all =
-      ap (onto c.loop-line.sheet) (sym (lines_here all i c.in-Some.line.now turn.0 turn.1)) ∙ c.loop-line.invariant.0 in
+    ap (onto c.loop-line.sheet) (sym (lines_here all i c.in-Some.line.now turn.0 turn.1)) ∙ c.loop-line.invariant.0 in
     subst (λ o. IfSome o (λ s. is_small s ≡ false)) whole (onto_long c.loop-line.sheet (first_part c.in-Some.line.now) (first_sheet (drop (i + 1) all)) too_long)
 
 pub returns-then-not-is_small-clause-not_yet : goal.returns-then-not-is_small-clause-not_yet
@@ -27,9 +27,9 @@ returns-then-not-is_small-clause-not_yet c = λ _.
     let road = YieldsList-at c.into_iter-line-iterator.ensures.into_iter_gives (YieldsList-from_slice_split _ (λ b. b == 10) c.args.bytes.now c.split-line-items.ensures.rest c.split-line-items.ensures.done c.split-line-items.ensures.closure (search rules)) in
     let turn = YieldsList-turn road c.loop-line.yielded _ c.loop-line.yielded_by _ _ c.in-Some.line c.in-Some.is c.next.ensures.steps in
     let whole : onto c.add.new.self (first_sheet (drop (i + 1) all)) ≡ first_sheet all =
-      c.in_ok-add.ensures (first_sheet (drop (i + 1) all))
-      ∙ ap (λ o. onto c.loop-line.sheet (first_joined o (first_sheet (drop (i + 1) all)))) (sym c.in-Ok.ensures.ok)
-      ∙ ap (onto c.loop-line.sheet) (sym (lines_here all i c.in-Some.line.now turn.0 turn.1)) ∙ c.loop-line.invariant.0 in
+    c.in_ok-add.ensures (first_sheet (drop (i + 1) all))
+    ∙ ap (λ o. onto c.loop-line.sheet (first_joined o (first_sheet (drop (i + 1) all)))) (sym c.in-Ok.ensures.ok)
+    ∙ ap (onto c.loop-line.sheet) (sym (lines_here all i c.in-Some.line.now turn.0 turn.1)) ∙ c.loop-line.invariant.0 in
     let large : is_small c.add.new.self ≡ false = sym c.is_small.ensures ∙ c.if-not-is_small.true in
     subst (λ o. IfSome o (λ s. is_small s ≡ false)) whole (onto_large c.add.new.self (first_sheet (drop (i + 1) all)) large)
 
@@ -40,9 +40,9 @@ loop-line-preserved c =
     let road = YieldsList-at c.into_iter-line-iterator.ensures.into_iter_gives (YieldsList-from_slice_split _ (λ b. b == 10) c.args.bytes.now c.split-line-items.ensures.rest c.split-line-items.ensures.done c.split-line-items.ensures.closure (search rules)) in
     let turn = YieldsList-turn road c.loop-line.yielded _ c.loop-line.yielded_by _ _ c.in-Some.line c.in-Some.is c.next.ensures.steps in (
       ap (λ n. onto c.add.new.self (first_sheet (drop n all))) (length-append c.loop-line.yielded (c.in-Some.line ∷ []))
-      ∙ c.in_ok-add.ensures (first_sheet (drop (i + 1) all))
-      ∙ ap (λ o. onto c.loop-line.sheet (first_joined o (first_sheet (drop (i + 1) all)))) (sym c.in-Ok.ensures.ok)
-      ∙ ap (onto c.loop-line.sheet) (sym (lines_here all i c.in-Some.line.now turn.0 turn.1)) ∙ c.loop-line.invariant.0,
+          ∙ c.in_ok-add.ensures (first_sheet (drop (i + 1) all))
+          ∙ ap (λ o. onto c.loop-line.sheet (first_joined o (first_sheet (drop (i + 1) all)))) (sym c.in-Ok.ensures.ok)
+          ∙ ap (onto c.loop-line.sheet) (sym (lines_here all i c.in-Some.line.now turn.0 turn.1)) ∙ c.loop-line.invariant.0,
       sym c.is_small.ensures ∙ c.if-not-is_small.false,
     )
 
