@@ -125,7 +125,10 @@ numbers = record { heads = number_head ∷ []; groups = [] }
 
 first : Geo
 first = record {
-  detail = no_heads; prim = no_heads; point = position_set; vertex = no_heads;
+  detail = no_heads;
+  prim = no_heads;
+  point = position_set;
+  vertex = no_heads;
   points = record { values = value.Vector zero_vector ∷ []; flags = true ∷ [] } ∷ record { values = value.Vector zero_vector ∷ []; flags = false ∷ [] } ∷ [];
   prims = record { closed = false; row = empty_row; corners = corner_at 1 ∷ [] } ∷ [];
   detail_row = empty_row;
@@ -133,7 +136,10 @@ first = record {
 
 second : Geo
 second = record {
-  detail = numbers; prim = no_heads; point = numbered_set; vertex = no_heads;
+  detail = numbers;
+  prim = no_heads;
+  point = numbered_set;
+  vertex = no_heads;
   points = record { values = value.Vector zero_vector ∷ value.Int (pos 7) ∷ []; flags = false ∷ true ∷ [] } ∷ [];
   prims = record { closed = true; row = empty_row; corners = corner_at 0 ∷ [] } ∷ [];
   detail_row = record { values = value.Int (pos 9) ∷ []; flags = [] };
@@ -142,11 +148,13 @@ second = record {
 -- the points of the first get the default 0, groups come by first appearance, and the second's vertex refers to point 2
 both : Geo
 both = record {
-  detail = numbers; prim = no_heads; vertex = no_heads;
+  detail = numbers;
+  prim = no_heads;
+  vertex = no_heads;
   point = record { heads = position_head ∷ number_head ∷ []; groups = codes "g" ∷ codes "h" ∷ [] };
   points = record { values = value.Vector zero_vector ∷ value.Int (pos 0) ∷ []; flags = true ∷ false ∷ [] }
-    ∷ record { values = value.Vector zero_vector ∷ value.Int (pos 0) ∷ []; flags = false ∷ false ∷ [] }
-    ∷ record { values = value.Vector zero_vector ∷ value.Int (pos 7) ∷ []; flags = true ∷ false ∷ [] } ∷ [];
+      ∷ record { values = value.Vector zero_vector ∷ value.Int (pos 0) ∷ []; flags = false ∷ false ∷ [] }
+      ∷ record { values = value.Vector zero_vector ∷ value.Int (pos 7) ∷ []; flags = true ∷ false ∷ [] } ∷ [];
   prims = record { closed = false; row = empty_row; corners = corner_at 1 ∷ [] } ∷ record { closed = true; row = empty_row; corners = corner_at 2 ∷ [] } ∷ [];
   detail_row = record { values = value.Int (pos 9) ∷ []; flags = [] };
 }
