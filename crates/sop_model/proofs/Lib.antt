@@ -1,1 +1,5 @@
-mod VerticesLemmas
+mod Examples
+pub mod VerticesLemmas
+pub mod PlainLemmas
+pub mod PlainMerge
+pub mod LimitsLemmas

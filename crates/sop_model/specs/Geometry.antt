@@ -132,6 +132,15 @@ pub record Fits (g : Geo) : Type 0 where
   pub within : IsWithin g
   pub weight : geo_weight g ≤ 40000000
 
+-- whether the heads and groups of a class are within their limits
+abbrev pub class_fits : HeadSet → Bool
+class_fits set = nat_le (length set.heads) 64 && nat_le (length set.groups) 256
+
+-- whether a geometry is within every limit, as `Fits` says it
+abbrev pub fits : Geo → Bool
+fits g = nat_le (length g.points) 1000000 && nat_le (length g.prims) 1000000 && nat_le (length (corners_of g.prims)) 4000000
+    && class_fits g.detail && class_fits g.prim && class_fits g.point && class_fits g.vertex && nat_le (geo_weight g) 40000000
+
 -- the point head `P` alone, and no group
 pub record HasOnlyPosition (g : Geo) : Type 0 where
   pub detail : g.detail ≡ no_heads

@@ -2,3 +2,4 @@ pub mod Values
 pub mod Vertices
 pub mod Geometry
 pub mod Merge
+pub mod Plain

@@ -4,8 +4,7 @@ ghost use Rattle.sop_model.specs.Geometry.{empty_row, no_heads, only_position, e
 
 use crate::primitives::PrimList;
 use crate::value::{Kind, Value};
-use sop_outside::Items;
-use sop_outside::{Text, TextList};
+use sop_outside::{Items, Text, TextList};
 use std::alloc::{AllocError, Global};
 
 pub type HeadList = Items<Head>;

@@ -2,6 +2,7 @@
 #![tactic(auto)]
 
 pub mod class;
+pub mod copies;
 pub mod geo;
 pub mod primitives;
 pub mod rows;
@@ -9,6 +10,7 @@ pub mod value;
 pub mod view;
 
 pub use class::Class;
+pub use copies::Copied;
 pub use geo::{
     Corner, CornerList, FlagList, Geo, Head, HeadList, HeadSet, Prim, Primitive, Row, RowList,
     ValueList,

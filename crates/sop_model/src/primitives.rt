@@ -1,7 +1,8 @@
 // The primitives of a geometry, with the number at which the vertices of each end.
-ghost use Rattle.std.specs.Prelude.{◌≡◌, ◌<◌, ◌≤◌, [], ◌∷◌, ◌++◌, length, OnOk, IfErr, OnErr, slice_get, Some, option_to_list, ◌↔◌, IsNone, take, sum_by};
+ghost use Rattle.std.specs.Prelude.{◌≡◌, ◌<◌, ◌≤◌, [], ◌∷◌, ◌++◌, length, OnOk, IfOk, IfErr, OnErr, slice_get, Some, option_to_list, ◌↔◌, IsNone, take, sum_by};
 ghost use Rattle.sop_model.specs.Vertices.{size_of, first_vertex_in, prim_in};
 
+use crate::copies::copy_slice;
 use crate::geo::Primitive;
 use std::alloc::{AllocError, Global};
 use std::marker::Model;
@@ -90,6 +91,14 @@ impl PrimList {
         self.prims.as_slice()
     }
 
+    /// The primitives as a `Vec`, without taking memory.
+    pub fn into_vec(self) -> Vec<Primitive>
+        ensures { result.items ≡ self }
+    {
+        let PrimList { prims, ends: _ } = self;
+        prims
+    }
+
     /// The number of the first vertex of primitive i, or of all vertices where i is the number of primitives.
     pub fn first_vertex(&self, i: usize) -> u64
         requires { i ≤ length self.now }
@@ -103,5 +112,15 @@ impl PrimList {
         ensures { result ≡ prim_in self.now vertex }
     {
         self.ends.partition_point(|end| *end <= vertex)
+    }
+
+    /// A copy in memory of `alloc`.
+    pub fn copy(&self, alloc: Global) -> Result<PrimList, AllocError>
+        ensures { IfOk result (λ made. made ≡ self.now) }
+    {
+        Ok(PrimList {
+            prims: copy_slice(self.prims.as_slice(), alloc)?,
+            ends: Vec::from_slice(alloc, self.ends.as_slice())?,
+        })
     }
 }

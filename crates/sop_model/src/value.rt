@@ -5,8 +5,7 @@ ghost use Rattle.sop_model.specs.Values.{kind_of, kind_seen, value_seen};
 use sop_fixed::int::Int;
 use sop_fixed::real::Real;
 use sop_fixed::vec3::Vec3;
-use sop_outside::Items;
-use sop_outside::{Text, TextList};
+use sop_outside::{Items, Text, TextList};
 
 /// What an attribute holds: one number, vector or string, or a list of one of these.
 #[derive(Clone, Copy, Debug, PartialEq, Eq)]

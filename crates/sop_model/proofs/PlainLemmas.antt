@@ -1,0 +1,112 @@
+-- Lemmas on plain geometries: what their rows are, and what their merge is.
+use Rattle.std.proofs.Common.{◌≡◌, Bool, ◌<◌, List, [], ◌∷◌, length, refl, sym, ◌∙◌, ap, subst, arith}
+use Rattle.std.specs.Prelude.{map, All}
+use Rattle.std.proofs.lemmas.List.{length-map, get_or-map, nil_from_length}
+use Rattle.std.proofs.lemmas.List.Elements.{All-nil, All-cons, All-head, All-tail, All-weaker, All-map}
+use Rattle.sop_fixed.specs.declared.vec3.Vec3.{Vec3}
+use Rattle.sop_model.specs.declared.class.Class.{Class}
+use Rattle.sop_model.specs.declared.class.Class.TheVariants.{Detail, Prim, Point, Vertex}
+use Rattle.sop_model.specs.declared.geo.Geo.{Geo}
+use Rattle.sop_model.specs.declared.geo.Row.{Row}
+use Rattle.sop_model.specs.declared.value.Kind.TheVariants as kind
+use Rattle.sop_model.specs.declared.value.Value.{Value}
+use Rattle.sop_model.specs.declared.value.Value.TheVariants as value
+use Rattle.sop_model.specs.Values.{kind_of}
+use Rattle.sop_model.specs.Vertices.{corners_of}
+use Rattle.sop_model.specs.Geometry.{heads_of, rows_of, empty_row, no_heads, only_position, HasOnlyPosition, IsNamed, IsRowOf, IsSound, BeginsWithPosition}
+use Rattle.sop_model.specs.Plain.{point_row, IsPointRow, IsPlain}
+
+-- lists
+
+All-unmap : {X Y : Type 0} (P : X → Type 0) (f : Y → X) (ys : List Y) → All P (map f ys) → All (λ y. P (f y)) ys
+All-unmap P f ys all k d lt = subst P (get_or-map f ys k d (f d) lt) (all k (f d) (omega (arith, length-map ys f)))
+
+-- what the rows of a plain geometry are
+
+row_made : List Value → List Bool → Row
+row_made values flags = record { values = values; flags = flags }
+
+row_same : (row made : Row) → row.values ≡ made.values → row.flags ≡ made.flags → row ≡ made
+unfolding row_made
+row_same row made values flags = ap (λ vs. row_made vs row.flags) values ∙ ap (row_made made.values) flags
+
+vector_alone : (values : List Value) → map kind_of values ≡ kind.Vector ∷ [] → (v : Vec3) × (values ≡ value.Vector v ∷ [])
+vector_alone [] is = cc
+vector_alone (value.Int x ∷ rest) is = cc
+vector_alone (value.Real x ∷ rest) is = cc
+vector_alone (value.Vector x ∷ []) is = (x, refl)
+vector_alone (value.Vector x ∷ y ∷ rest) is = cc
+vector_alone (value.Str x ∷ rest) is = cc
+vector_alone (value.Ints x ∷ rest) is = cc
+vector_alone (value.Reals x ∷ rest) is = cc
+vector_alone (value.Vectors x ∷ rest) is = cc
+vector_alone (value.Strs x ∷ rest) is = cc
+
+kinds_none : (values : List Value) → map kind_of values ≡ [] → values ≡ []
+kinds_none [] is = refl
+kinds_none (v ∷ values) is = cc
+
+row_of_none : (row : Row) → IsRowOf no_heads row → row ≡ empty_row
+row_of_none row is = row_same row empty_row (kinds_none row.values is.kinds) (nil_from_length row.flags is.flags)
+
+row_of_position : (row : Row) → IsRowOf only_position row → IsPointRow row
+row_of_position row is =
+    let alone = vector_alone row.values is.kinds in
+    (alone.0, row_same row (point_row alone.0) alone.1 (nil_from_length row.flags is.flags))
+
+empty_row_of_none : (row : Row) → row ≡ empty_row → IsRowOf no_heads row
+empty_row_of_none row is = subst (IsRowOf no_heads) (sym is) (record { kinds = refl; flags = refl })
+
+point_row_of_position : (row : Row) → IsPointRow row → IsRowOf only_position row
+point_row_of_position row is = subst (IsRowOf only_position) (sym is.1) (record { kinds = refl; flags = refl })
+
+-- a well made geometry whose only attribute is `P` is plain
+pub IsPlain-from_sound : (g : Geo) → IsSound g → HasOnlyPosition g → IsPlain g
+IsPlain-from_sound g sound only =
+    let prim_rows = subst (λ set. All (IsRowOf set) (rows_of g Prim)) only.prim (sound.rows Prim) in
+    let point_rows = subst (λ set. All (IsRowOf set) g.points) only.point (sound.rows Point) in
+    let vertex_rows = subst (λ set. All (IsRowOf set) (rows_of g Vertex)) only.vertex (sound.rows Vertex) in
+    let detail_rows = subst (λ set. All (IsRowOf set) (rows_of g Detail)) only.detail (sound.rows Detail) in
+    record {
+      only = only;
+      points = All-weaker (IsRowOf only_position) IsPointRow row_of_position g.points point_rows;
+      prims = All-unmap (λ row. row ≡ empty_row) (λ p. p.row) g.prims (All-weaker (IsRowOf no_heads) (λ row. row ≡ empty_row) row_of_none (rows_of g Prim) prim_rows);
+      corners = All-unmap (λ row. row ≡ empty_row) (λ c. c.row) (corners_of g.prims) (All-weaker (IsRowOf no_heads) (λ row. row ≡ empty_row) row_of_none (rows_of g Vertex) vertex_rows);
+      detail = row_of_none g.detail_row (All-head (IsRowOf no_heads) g.detail_row [] detail_rows);
+    }
+
+named_position : IsNamed only_position
+named_position = record { heads = refl; groups = refl; distinct_heads = refl; distinct_groups = refl }
+
+named_none : IsNamed no_heads
+named_none = record { heads = refl; groups = refl; distinct_heads = refl; distinct_groups = refl }
+
+named_of : (g : Geo) → HasOnlyPosition g → (class : Class) → IsNamed (heads_of g class)
+named_of g only Detail = subst IsNamed (sym only.detail) named_none
+named_of g only Prim = subst IsNamed (sym only.prim) named_none
+named_of g only Point = subst IsNamed (sym only.point) named_position
+named_of g only Vertex = subst IsNamed (sym only.vertex) named_none
+
+rows_as : (g : Geo) → IsPlain g → (class : Class) → All (IsRowOf (heads_of g class)) (rows_of g class)
+rows_as g plain Detail = subst (λ set. All (IsRowOf set) (rows_of g Detail)) (sym plain.only.detail) (All-cons (IsRowOf no_heads) g.detail_row [] (empty_row_of_none g.detail_row plain.detail) (All-nil (IsRowOf no_heads)))
+rows_as g plain Prim = subst (λ set. All (IsRowOf set) (rows_of g Prim)) (sym plain.only.prim) (All-weaker (λ row. row ≡ empty_row) (IsRowOf no_heads) empty_row_of_none (rows_of g Prim) (All-map (λ row. row ≡ empty_row) (λ p. p.row) g.prims plain.prims))
+rows_as g plain Point = subst (λ set. All (IsRowOf set) g.points) (sym plain.only.point) (All-weaker IsPointRow (IsRowOf only_position) point_row_of_position g.points plain.points)
+rows_as g plain Vertex = subst (λ set. All (IsRowOf set) (rows_of g Vertex)) (sym plain.only.vertex) (All-weaker (λ row. row ≡ empty_row) (IsRowOf no_heads) empty_row_of_none (rows_of g Vertex) (All-map (λ row. row ≡ empty_row) (λ c. c.row) (corners_of g.prims) plain.corners))
+
+-- a plain geometry is well made where its vertices refer to points that it has
+pub IsSound-from_plain : (g : Geo) → IsPlain g → All (λ c. c.point < length g.points) (corners_of g.prims) → IsSound g
+IsSound-from_plain g plain points = record {
+  detail_groups = ap (λ set. set.groups) plain.only.detail;
+  named = named_of g plain.only;
+  rows = rows_as g plain;
+  position = subst BeginsWithPosition (sym (ap (λ set. set.heads) plain.only.point)) refl;
+  points = points;
+}
+
+-- the points of a plain geometry as a list of positions
+pub positions_of : (rows : List Row) → All IsPointRow rows → (vs : List Vec3) × (rows ≡ map point_row vs)
+positions_of [] all = ([], refl)
+positions_of (row ∷ rows) all =
+    let here = All-head IsPointRow row rows all in
+    let rest = positions_of rows (All-tail IsPointRow row rows all) in
+    (here.0 ∷ rest.0, cc)
