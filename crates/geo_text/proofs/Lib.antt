@@ -1,0 +1,8 @@
+pub mod Plain
+pub mod Words
+pub mod Lines
+pub mod Sheets
+pub mod Goodness
+mod Steps
+mod Writing
+mod Examples

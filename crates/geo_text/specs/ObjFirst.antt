@@ -1,28 +1,33 @@
 -- The points and primitives of lines that have the first form, before the number of points is known.
-use Rattle.std.specs.Prelude.{ℕ, ◌-◌, Bool, true, false, if◌then◌else◌, ◌&&◌, not, nat_le, nat_lt, List, [], ◌∷◌, ◌++◌, length, Option, None, Some, Result, Ok, Err, ℤ, codes}
+use Rattle.std.specs.Prelude.{ℕ, ◌-◌, Bool, if◌then◌else◌, ◌&&◌, nat_le, nat_lt, List, [], ◌∷◌, ◌++◌, length, Option, None, Some, ℤ, codes}
 use Rattle.std.specs.List.{list_all}
+use Rattle.std.specs.Borrow.{Bor}
 use Rattle.std.specs.Option.{option_map}
+use Rattle.std.specs.Result.{result_ok}
 use Rattle.std.specs.Str.{bytes_eq}
 use Rattle.sop_fixed.specs.Numerals.{is_some_digits, number_of, value_of}
-use Rattle.sop_fixed.specs.declared.fault.NumeralFault.{NumeralFault}
 use Rattle.sop_fixed.specs.declared.vec3.Vec3.{Vec3}
-use Rattle.sop_model.specs.declared.geo.Row.{Row}
 use Rattle.sop_model.specs.declared.geo.Corner.{Corner}
 use Rattle.sop_model.specs.declared.geo.Primitive.{Primitive}
 use Rattle.sop_model.specs.Geometry.{empty_row}
+use Rattle.sop_model.specs.Vertices.{corners_of}
 use Rattle.geo_text.specs.declared.part.Part.{Part}
 use Rattle.geo_text.specs.declared.part.Part.TheVariants.{Nothing, Position, Face}
-use Rattle.geo_text.specs.ObjReading.{is_filled, Sheet, with_part}
+use Rattle.geo_text.specs.declared.sheet.Sheet.{Sheet}
+use Rattle.geo_text.specs.ObjReading.{is_filled, with_part}
 use Rattle.geo_text.specs.ObjForm.{pieces_of, is_word}
 
-abbrev pub first_vector : Result ℤ NumeralFault → Result ℤ NumeralFault → Result ℤ NumeralFault → Option Vec3
-first_vector (Ok a) (Ok b) (Ok c) = Some (record { x = a; y = b; z = c })
-first_vector (Ok a) (Ok b) (Err e) = None
-first_vector (Ok a) (Err e) c = None
-first_vector (Err e) b c = None
+abbrev pub first_coordinate : List ℕ → Option ℤ
+first_coordinate word = if is_word word then result_ok (value_of word) else None
+
+abbrev pub first_vector : Option ℤ → Option ℤ → Option ℤ → Option Vec3
+first_vector (Some a) (Some b) (Some c) = Some (record { x = a; y = b; z = c })
+first_vector (Some a) (Some b) None = None
+first_vector (Some a) None c = None
+first_vector None b c = None
 
 abbrev pub first_position : List (List ℕ) → Option Vec3
-first_position (x ∷ y ∷ z ∷ []) = first_vector (value_of x) (value_of y) (value_of z)
+first_position (x ∷ y ∷ z ∷ []) = first_vector (first_coordinate x) (first_coordinate y) (first_coordinate z)
 first_position _ = None
 
 -- A number from 1 on, of at most 9 digits.
@@ -51,9 +56,7 @@ first_words (key ∷ words) =
     else None
 
 abbrev pub first_part : List ℕ → Option Part
-first_part line =
-    if not (is_filled line) then Some Nothing
-    else if list_all is_word (pieces_of line) then first_words (pieces_of line) else None
+first_part line = if is_filled line then first_words (pieces_of line) else Some Nothing
 
 abbrev pub first_joined : Option Part → Option Sheet → Option Sheet
 first_joined None rest = None
@@ -64,9 +67,26 @@ first_sheet [] = Some (record { points = []; prims = [] })
 first_sheet (line ∷ lines) = first_joined (first_part line) (first_sheet lines)
 
 -- Whether each corner names one of so many points.
-abbrev pub are_within : ℕ → List Primitive → Bool
-are_within total prims = list_all (λ p. list_all (λ c. nat_lt c.point total) p.corners) prims
+abbrev pub are_corners_within : ℕ → List Corner → Bool
+are_corners_within total corners = list_all (λ c. nat_lt c.point total) corners
 
--- Points and primitives that stand before those of a sheet.
-abbrev pub onto : List Row → List Primitive → Option Sheet → Option Sheet
-onto points prims rest = option_map (λ s. record { points = points ++ s.points; prims = prims ++ s.prims }) rest
+abbrev pub are_within : ℕ → List Primitive → Bool
+are_within total prims = list_all (λ p. are_corners_within total p.corners) prims
+
+-- What stands before the points and primitives of other lines.
+abbrev pub onto : Sheet → Option Sheet → Option Sheet
+onto front rest = option_map (λ s. record { points = front.points ++ s.points; prims = front.prims ++ s.prims }) rest
+
+-- At most 1,000,000 points, 1,000,000 primitives and 4,000,000 vertices.
+abbrev pub is_small : Sheet → Bool
+is_small s = nat_le (length s.points) 1000000 && nat_le (length s.prims) 1000000 && nat_le (length (corners_of s.prims)) 4000000
+
+abbrev pub vertices_of : Part → ℕ
+vertices_of Nothing = 0
+vertices_of (Position at) = 0
+vertices_of (Face corners) = length corners
+
+-- The pieces behind a space, where there is one.
+abbrev pub pieces_left : Option (Bor (List ℕ)) → List (List ℕ)
+pieces_left None = []
+pieces_left (Some rest) = pieces_of rest.now

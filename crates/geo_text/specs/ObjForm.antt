@@ -1,16 +1,16 @@
 -- The form of OBJ texts that is read by now. Each line ends with LF, and is empty or has single spaces between its words
 -- and none at its ends. The words are `v` and three numerals in range, or `f` and at least one whole number from 1 to the
 -- number of `v` lines of the text, of at most 9 digits.
-use Rattle.std.specs.Prelude.{ℕ, Bool, true, false, ◌&&◌, ◌||◌, not, nat_le, nat_lt, ◌==◌, List, [], ◌∷◌, length, is_ok, codes}
+use Rattle.std.specs.Prelude.{ℕ, ◌-◌, Bool, true, false, ◌&&◌, ◌||◌, not, nat_le, nat_lt, ◌==◌, List, [], ◌∷◌, length, slice_get, is_ok, codes}
+use Rattle.std.specs.Option.{option_map_or}
 use Rattle.std.specs.List.{list_all, slice_split}
 use Rattle.std.specs.Str.{bytes_eq}
 use Rattle.sop_fixed.specs.Numerals.{is_some_digits, number_of, value_of}
 use Rattle.geo_text.specs.ObjReading.{lines_of, worded_lines, positions_in, is_blank, is_filled}
 
+-- The last byte, if there is one, is LF.
 abbrev pub ends_with_line_feed : List ℕ → Bool
-ends_with_line_feed [] = true
-ends_with_line_feed (b ∷ []) = b == 10
-ends_with_line_feed (b ∷ c ∷ bytes) = ends_with_line_feed (c ∷ bytes)
+ends_with_line_feed bytes = option_map_or (λ b. b == 10) (slice_get bytes (length bytes - 1)) true
 
 -- What stands between the spaces of a line.
 abbrev pub pieces_of : List ℕ → List (List ℕ)

@@ -2,10 +2,9 @@
 --
 -- A text is cut into lines, and a line into words. Each line says something by its first word: `v` a point, `f` a closed
 -- primitive, and every other word nothing. The points and primitives come in the order of their lines.
-use Rattle.std.specs.Prelude.{ℕ, ◌+◌, ◌-◌, Bool, true, false, if◌then◌else◌, ◌&&◌, ◌||◌, nat_le, nat_lt, ◌==◌, List, [], ◌∷◌, length, map, filter, not, Option, None, Some, Result, Ok, Err, ℤ, codes}
+use Rattle.std.specs.Prelude.{ℕ, ◌+◌, ◌-◌, Bool, true, false, if◌then◌else◌, ◌||◌, nat_le, nat_lt, ◌==◌, List, [], ◌∷◌, length, map, filter, not, Option, None, Some, Result, Ok, Err, ℤ, codes}
 use Rattle.std.specs.List.{slice_split}
 use Rattle.std.specs.Str.{bytes_eq}
-use Rattle.std.specs.Result.{result_map}
 use Rattle.sop_fixed.specs.Numerals.{has_minus, after_sign, is_some_digits, number_of, value_of}
 use Rattle.sop_fixed.specs.declared.fault.NumeralFault.{NumeralFault}
 use Rattle.sop_fixed.specs.declared.vec3.Vec3.{Vec3}
@@ -15,6 +14,7 @@ use Rattle.sop_model.specs.declared.geo.Corner.{Corner}
 use Rattle.sop_model.specs.declared.geo.Primitive.{Primitive}
 use Rattle.sop_model.specs.declared.value.Value.TheVariants as value
 use Rattle.sop_model.specs.Geometry.{empty_row, empty_geo}
+use Rattle.geo_text.specs.declared.sheet.Sheet.{Sheet}
 use Rattle.geo_text.specs.declared.part.Part.{Part}
 use Rattle.geo_text.specs.declared.part.Part.TheVariants.{Nothing, Position, Face}
 
@@ -68,10 +68,14 @@ pub data Refusal : Type 0 where
   Index : ℕ → Refusal
   Limit : Refusal
 
--- The numbers of the texts, in order, or the first refusal.
+abbrev pub map_ok : {A B E : Type 0} → (A → B) → Result A E → Result B E
+map_ok f (Ok x) = Ok (f x)
+map_ok f (Err e) = Err e
+
+-- What each item gives, in order, or the first refusal.
 abbrev pub put_first : {A E : Type 0} → Result A E → Result (List A) E → Result (List A) E
 put_first (Err e) rest = Err e
-put_first (Ok x) rest = result_map (λ xs. x ∷ xs) rest
+put_first (Ok x) rest = map_ok (λ xs. x ∷ xs) rest
 
 abbrev pub each_of : {A B E : Type 0} → (A → Result B E) → List A → Result (List B) E
 each_of f [] = Ok []
@@ -108,7 +112,7 @@ corner_of line total so_far word = if is_some_digits (after_sign word) then corn
 -- Behind `f` stand the references of one closed primitive. None say nothing.
 abbrev pub face_part : ℕ → ℕ → ℕ → List (List ℕ) → Result Part Refusal
 face_part line total so_far [] = Ok Nothing
-face_part line total so_far (word ∷ words) = result_map Face (each_of (corner_of line total so_far) (word ∷ words))
+face_part line total so_far (word ∷ words) = map_ok Face (each_of (corner_of line total so_far) (word ∷ words))
 
 -- What a line of this number says, by its words.
 abbrev pub part_of : ℕ → ℕ → ℕ → List (List ℕ) → Result Part Refusal
@@ -117,11 +121,6 @@ part_of line total so_far (key ∷ words) =
     if bytes_eq key (codes "v") then position_part line words
     else if bytes_eq key (codes "f") then face_part line total so_far words
     else Ok Nothing
-
--- The points and primitives of some lines.
-pub record Sheet : Type 0 where
-  pub points : List Row
-  pub prims : List Primitive
 
 abbrev pub point_row : Vec3 → Row
 point_row at = record { values = value.Vector at ∷ []; flags = [] }
@@ -136,7 +135,7 @@ with_part (Face corners) sheet = record { points = sheet.points; prims = face_of
 
 abbrev pub joined : Result Part Refusal → Result Sheet Refusal → Result Sheet Refusal
 joined (Err refusal) rest = Err refusal
-joined (Ok part) rest = result_map (with_part part) rest
+joined (Ok part) rest = map_ok (with_part part) rest
 
 -- What the lines from this number on say, or the first line that is refused, in it by its first refused word.
 abbrev pub sheet_from : ℕ → ℕ → ℕ → List (List (List ℕ)) → Result Sheet Refusal
@@ -154,7 +153,7 @@ geo_of sheet = record empty_geo { points = sheet.points; prims = sheet.prims }
 
 -- A limit is decided before every line.
 abbrev pub geo_of_lines : List (List (List ℕ)) → Result Geo Refusal
-geo_of_lines lines = if passes_limits lines then Err Limit else result_map geo_of (sheet_from 1 (positions_in lines) 0 lines)
+geo_of_lines lines = if passes_limits lines then Err Limit else map_ok geo_of (sheet_from 1 (positions_in lines) 0 lines)
 
 -- The geometry of a text.
 abbrev pub obj_geo : List ℕ → Result Geo Refusal

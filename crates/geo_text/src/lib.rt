@@ -4,8 +4,12 @@
 mod fault;
 mod part;
 mod read;
+mod sheet;
 mod write;
 
 pub use fault::ObjFault;
 pub use read::read_obj;
 pub use write::write_obj;
+
+#[cfg(test)]
+mod tests;

@@ -1,3 +1,5 @@
+mod Examples
 pub mod VerticesLemmas
 pub mod PlainLemmas
 pub mod PlainMerge
+pub mod LimitsLemmas

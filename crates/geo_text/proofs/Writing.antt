@@ -1,0 +1,127 @@
+-- What a view of a geometry with `P` alone gives, as its text wants it.
+use Rattle.std.proofs.Common.{◌≡◌, ℕ, zero, suc, ◌+◌, ◌<◌, ◌≤◌, List, [], ◌∷◌, ◌++◌, length, map, get_or, take, drop, append_assoc, append-nil, length-append, refl, sym, ap, subst, ◌∙◌, arith, Option, Some, None, Bool}
+use Rattle.std.specs.Prelude.{slice_get, codes, if◌then◌else◌}
+use Rattle.std.specs.List.{flat_map}
+use Rattle.std.specs.Option.{option_map, option_and_then}
+use Rattle.std.proofs.lemmas.List.Sums.{sum_by-cons}
+use Rattle.std.proofs.lemmas.Option.{slice_get-get_or}
+use Rattle.sop_fixed.specs.declared.vec3.Vec3.{Vec3}
+use Rattle.sop_model.specs.declared.class.Class.TheVariants as class
+use Rattle.sop_model.specs.declared.geo.Geo.{Geo}
+use Rattle.sop_model.specs.declared.geo.Primitive.{Primitive}
+use Rattle.sop_model.specs.declared.value.Kind.TheVariants as kind
+use Rattle.sop_model.specs.declared.value.Value.{Value}
+use Rattle.sop_model.specs.declared.value.ValueRef.{ValueRef}
+use Rattle.sop_model.specs.declared.value.ValueRef.TheVariants as ref
+use Rattle.sop_model.specs.Values.{kind_of, value_seen}
+use Rattle.sop_model.specs.Geometry.{empty_row, value_at, IsReadable, HasOnlyPosition}
+use Rattle.sop_model.specs.Vertices.{size_of, corners_of, first_vertex_in}
+use Rattle.geo_text.specs.ObjWriting.{reference_text, primitive_line}
+
+-- ---- the value of `P` is a vector
+first_kind : (values : List Value) (v : Value) → map kind_of values ≡ kind.Vector ∷ [] → slice_get values 0 ≡ Some v → kind_of v ≡ kind.Vector
+first_kind [] v kinds is = cc
+first_kind (w ∷ values) v kinds is = let same : w ≡ v = cc in ap kind_of (sym same) ∙ cc
+
+not_vector : (r : ValueRef) → kind_of (value_seen r) ≡ kind.Vector → ((x : Vec3) → r ≡ ref.Vector x → ⊥) → ⊥
+not_vector (ref.Int n) k other = cc
+not_vector (ref.Real x) k other = cc
+not_vector (ref.Vector v) k other = other v refl
+not_vector (ref.Str text) k other = cc
+not_vector (ref.Ints list) k other = cc
+not_vector (ref.Reals list) k other = cc
+not_vector (ref.Vectors list) k other = cc
+not_vector (ref.Strs list) k other = cc
+
+pub place_is_vector : (g : Geo) (point : ℕ) (r : ValueRef) → IsReadable g → HasOnlyPosition g → point < length g.points → value_at g class.Point 0 point ≡ Some (value_seen r) → ((x : Vec3) → r ≡ ref.Vector x → ⊥) → ⊥
+place_is_vector g point r readable position lt is other =
+    let row = get_or g.points point empty_row in
+    let found : slice_get g.points point ≡ Some row = slice_get-get_or g.points point empty_row lt in
+    let fits = readable.sound.rows class.Point point empty_row lt in
+    let kinds : map kind_of row.values ≡ kind.Vector ∷ [] = fits.kinds ∙ ap (λ set. map (λ h. h.kind) set.heads) position.point in
+    let value : slice_get row.values 0 ≡ Some (value_seen r) = ap (option_and_then (λ row. slice_get row.values 0)) (sym found) ∙ is in
+    not_vector r (first_kind row.values (value_seen r) kinds value) other
+
+-- ---- one more item of a list
+pub flat_map_more : {A : Type 0} (f : A → List ℕ) (xs : List A) (i : ℕ) (x : A) → slice_get xs i ≡ Some x → flat_map f (take (i + 1) xs) ≡ flat_map f (take i xs) ++ f x
+flat_map_more f [] zero x e = cc
+flat_map_more f [] (suc i) x e = cc
+flat_map_more f (y ∷ xs) zero x e = let same : y ≡ x = cc in append-nil (f y) ∙ ap f same
+flat_map_more f (y ∷ xs) (suc i) x e =
+    let next : suc i + 1 ≡ suc (i + 1) = omega arith in
+    ap (λ n. flat_map f (take n (y ∷ xs))) next ∙ ap (λ l. f y ++ l) (flat_map_more f xs i x e) ∙ sym (append_assoc (f y) (flat_map f (take i xs)) (f x))
+
+-- the same of what is read of the item
+mapped_some : {A B : Type 0} (h : A → B) (o : Option A) (y : B) → option_map h o ≡ Some y → (x : A) × (o ≡ Some x) × (h x ≡ y)
+mapped_some h None y e = cc
+mapped_some h (Some x) y e = (x, refl, cc)
+
+pub flat_map_read : {A B : Type 0} (h : A → B) (f : B → List ℕ) (xs : List A) (i : ℕ) (y : B) → option_map h (slice_get xs i) ≡ Some y → flat_map (λ x. f (h x)) (take (i + 1) xs) ≡ flat_map (λ x. f (h x)) (take i xs) ++ f y
+flat_map_read h f xs i y e =
+    let (x, here, is) = mapped_some h (slice_get xs i) y e in
+    flat_map_more (λ x. f (h x)) xs i x here ∙ ap (λ y. flat_map (λ x. f (h x)) (take i xs) ++ f y) is
+
+-- ---- the vertices of one primitive among all
+pub slice_get-drop : {A : Type 0} (xs : List A) (i k : ℕ) → slice_get (drop i xs) k ≡ slice_get xs (i + k)
+slice_get-drop xs zero k = let e : k ≡ 0 + k = omega arith in ap (slice_get xs) e
+slice_get-drop [] (suc i) k = refl
+slice_get-drop (x ∷ xs) (suc i) k = let e : suc (i + k) ≡ suc i + k = omega arith in slice_get-drop xs i k ∙ ap (slice_get (x ∷ xs)) e
+
+take_front : {A : Type 0} (xs ys : List A) → take (length xs) (xs ++ ys) ≡ xs
+take_front [] ys = refl
+take_front (x ∷ xs) ys = ap (λ l. x ∷ l) (take_front xs ys)
+
+drop_front : {A : Type 0} (xs ys : List A) (n : ℕ) → drop (length xs + n) (xs ++ ys) ≡ drop n ys
+drop_front [] ys n = let e : 0 + n ≡ n = omega arith in ap (λ k. drop k ys) e
+drop_front (x ∷ xs) ys n = let e : suc (length xs) + n ≡ suc (length xs + n) = omega arith in ap (λ k. drop k (x ∷ (xs ++ ys))) e ∙ drop_front xs ys n
+
+pub record PieceAt (prims : List Primitive) (i : ℕ) (p : Primitive) : Type 0 where
+  pub inside : first_vertex_in prims i + size_of p ≤ length (corners_of prims)
+  pub corners : take (size_of p) (drop (first_vertex_in prims i) (corners_of prims)) ≡ p.corners
+
+pub piece_at : (prims : List Primitive) (i : ℕ) (p : Primitive) → slice_get prims i ≡ Some p → PieceAt prims i p
+piece_at [] zero p e = cc
+piece_at [] (suc i) p e = cc
+piece_at (q ∷ prims) zero p e =
+    let same : q ≡ p = cc in
+    subst (PieceAt (q ∷ prims) 0) same (record { inside = omega (arith, length-append q.corners (corners_of prims)); corners = take_front q.corners (corners_of prims) })
+piece_at (q ∷ prims) (suc i) p e =
+    let rest = piece_at prims i p e in
+    let first : first_vertex_in (q ∷ prims) (suc i) ≡ size_of q + first_vertex_in prims i = sum_by-cons size_of q (take i prims) in
+    record {
+      inside = omega (arith, rest.inside, first, length-append q.corners (corners_of prims));
+      corners = ap (λ n. take (size_of p) (drop n (q.corners ++ corners_of prims))) first ∙ ap (take (size_of p)) (drop_front q.corners (corners_of prims) (first_vertex_in prims i)) ∙ rest.corners;
+    }
+
+pub prim_inside : (prims : List Primitive) (i first size : ℕ) → option_map size_of (slice_get prims i) ≡ Some size → first ≡ first_vertex_in prims i → first + size ≤ length (corners_of prims)
+prim_inside prims i first size e at =
+    let (p, here, is) = mapped_some size_of (slice_get prims i) size e in
+    omega (arith, (piece_at prims i p here).inside, at, is)
+
+-- a text that grew by the keyword, the references and the end of a line
+pub prim_text : (prims : List Primitive) (i first size : ℕ) (closed : Bool) (old keyword keyed referred whole : List ℕ)
+    → option_map size_of (slice_get prims i) ≡ Some size → option_map (λ p. p.closed) (slice_get prims i) ≡ Some closed → first ≡ first_vertex_in prims i
+    → keyword ≡ (if closed then codes "f" else codes "l") → keyed ≡ old ++ keyword
+    → referred ≡ keyed ++ flat_map reference_text (take size (drop first (corners_of prims))) → whole ≡ referred ++ codes "\n"
+    → option_map (λ p. old ++ primitive_line p) (slice_get prims i) ≡ Some whole
+prim_text prims i first size closed old keyword keyed referred whole sized closes at key k r w =
+    let (p, here, is) = mapped_some size_of (slice_get prims i) size sized in
+    let shut : p.closed ≡ closed = let e : Some p.closed ≡ Some closed = ap (option_map (λ p. p.closed)) (sym here) ∙ closes in cc in
+    let corners : take size (drop first (corners_of prims)) ≡ p.corners = ap (λ n. take n (drop first (corners_of prims))) (sym is) ∙ ap (λ n. take (size_of p) (drop n (corners_of prims))) at ∙ (piece_at prims i p here).corners in
+    let head : keyword ≡ (if p.closed then codes "f" else codes "l") = key ∙ ap (λ b. if b then codes "f" else codes "l") (sym shut) in
+    let references = flat_map reference_text p.corners in
+    let text : whole ≡ old ++ ((if p.closed then codes "f" else codes "l") ++ references ++ codes "\n") =
+    w ∙ ap (λ t. t ++ codes "\n") (r ∙ ap (λ l. keyed ++ flat_map reference_text l) corners ∙ ap (λ t. t ++ references) (k ∙ ap (λ l. old ++ l) head))
+    ∙ ap (λ t. t ++ codes "\n") (append_assoc old (if p.closed then codes "f" else codes "l") references)
+    ∙ append_assoc old ((if p.closed then codes "f" else codes "l") ++ references) (codes "\n") in
+    ap (option_map (λ p. old ++ primitive_line p)) here ∙ ap Some (sym text)
+
+pub prims_more : (prims : List Primitive) (i : ℕ) (old text longer : List ℕ) → option_map (λ p. text ++ primitive_line p) (slice_get prims i) ≡ Some longer → text ≡ old ++ flat_map primitive_line (take i prims) → longer ≡ old ++ flat_map primitive_line (take (i + 1) prims)
+prims_more prims i old text longer e so_far =
+    let (p, here, is) = mapped_some (λ p. text ++ primitive_line p) (slice_get prims i) longer e in
+    sym is ∙ ap (λ t. t ++ primitive_line p) so_far ∙ append_assoc old (flat_map primitive_line (take i prims)) (primitive_line p) ∙ ap (λ l. old ++ l) (sym (flat_map_more primitive_line prims i p here))
+
+-- a text that grew by what is read of one more item
+pub text_more : {A B : Type 0} (h : A → B) (f : B → List ℕ) (xs : List A) (i : ℕ) (y : B) (old text longer : List ℕ) → option_map h (slice_get xs i) ≡ Some y → longer ≡ text ++ f y → text ≡ old ++ flat_map (λ x. f (h x)) (take i xs) → longer ≡ old ++ flat_map (λ x. f (h x)) (take (i + 1) xs)
+text_more h f xs i y old text longer e more so_far =
+    more ∙ ap (λ t. t ++ f y) so_far ∙ append_assoc old (flat_map (λ x. f (h x)) (take i xs)) (f y) ∙ ap (λ l. old ++ l) (sym (flat_map_read h f xs i y e))
