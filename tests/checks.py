@@ -120,6 +120,14 @@ def limits(program):
         )
 
 
+def outcome(check):
+    """Why a check fails, or nothing. One that can't be made fails too."""
+    try:
+        return check()
+    except (OSError, ValueError, subprocess.SubprocessError) as error:
+        return f"{type(error).__name__}: {error}"
+
+
 def main():
     parser = argparse.ArgumentParser()
     parser.add_argument("program")
@@ -139,7 +147,7 @@ def main():
         for name, check in checks:
             if args.only not in f"{group}: {name}":
                 continue
-            problem = check()
+            problem = outcome(check)
             passed, failed = passed + (not problem), failed + bool(problem)
             if problem:
                 print(f"FAILED {group}: {name}: {problem}", flush=True)
