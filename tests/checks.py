@@ -19,7 +19,7 @@ import house
 import launcher
 
 TOP = os.path.dirname(os.path.dirname(os.path.realpath(__file__)))
-SECONDS = 20
+SECONDS = 60
 
 
 def cook(program, words, folder, **streams):
@@ -109,11 +109,12 @@ def limits(program):
     merge = b"opadd file f\nopparm f file a.obj\nopadd merge m\nopwire m 0 f\nopwire m 1 f\n"
     refused = 3, b"", b"sopcook: NotYet\n"
     points = lambda count: b"v 0 0 0\n" * count
-    long_script = (b"opadd file f\n" + b"opparm f file a.obj\n" * 300_000)[: 4 * 1024 * 1024 + 13]
+    script = lambda lines: b"opadd file f\n" + b"opparm f file a.obj\n" * lines
     for name, files, node, wanted in [
         ("a merge of 1,000,000 points", {"s": merge, "a.obj": points(500_000)}, "m", (0, points(1_000_000), b"")),
         ("a merge of 1,000,002 points", {"s": merge, "a.obj": points(500_001)}, "m", refused),
-        ("a script past 4 MiB", {"s": long_script + b"\n", "a.obj": points(1)}, "f", refused),
+        ("a script of 4,194,293 bytes", {"s": script(209_714), "a.obj": points(1)}, "f", (0, points(1), b"")),
+        ("a script of 4,194,313 bytes", {"s": script(209_715), "a.obj": points(1)}, "f", refused),
     ]:
         yield name, lambda files=files, node=node, wanted=wanted: in_folder(
             files, lambda folder: compare(cook(program, ["s", node], folder), wanted)
