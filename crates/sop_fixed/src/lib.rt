@@ -6,10 +6,9 @@ pub mod fault;
 pub mod int;
 pub mod numeral;
 pub mod real;
-pub mod vec3;
-
 #[cfg(test)]
 mod tests;
+pub mod vec3;
 
 pub use fault::{NumFault, NumeralFault};
 pub use int::Int;
