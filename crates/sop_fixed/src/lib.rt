@@ -6,8 +6,6 @@ pub mod fault;
 pub mod int;
 pub mod numeral;
 pub mod real;
-#[cfg(test)]
-mod tests;
 pub mod vec3;
 
 pub use fault::{NumFault, NumeralFault};
@@ -15,3 +13,6 @@ pub use int::Int;
 pub use numeral::{print, read_numeral};
 pub use real::Real;
 pub use vec3::Vec3;
+
+#[cfg(test)]
+mod tests;
