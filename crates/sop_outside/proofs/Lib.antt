@@ -1,0 +1,3 @@
+mod Examples
+pub mod Appended
+pub mod Names
