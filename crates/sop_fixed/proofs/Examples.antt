@@ -1,11 +1,9 @@
 -- Worked examples: what the definitions say of texts and numbers, by computation.
-use Rattle.std.specs.Prelude.{◌≡◌, refl, ℤ, pos, negsuc, Ok, Err, codes, List, ℕ, Result}
+use Rattle.std.specs.Prelude.{◌≡◌, refl, pos, negsuc, Ok, Err, codes}
 use Rattle.std.specs.Fmt.{digits}
-use Rattle.sop_fixed.specs.Numbers.{nearest, real_of, int_of}
+use Rattle.sop_fixed.specs.Numbers.{real_of, int_of}
 use Rattle.sop_fixed.specs.Numerals.{value_of, decimal_of}
-use Rattle.sop_fixed.specs.declared.fault.NumeralFault.{NumeralFault}
 use Rattle.sop_fixed.specs.declared.fault.NumeralFault.TheVariants.{NotNumeral, OutOfRange}
-use Rattle.sop_fixed.specs.declared.fault.NumFault.{NumFault}
 use Rattle.sop_fixed.specs.declared.fault.NumFault.TheVariants.{Range}
 
 half_up : value_of (codes "0.0000005") ≡ Ok (pos 1)

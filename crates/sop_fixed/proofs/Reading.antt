@@ -1,10 +1,10 @@
 -- Why a numeral that is read with a cap on its size, and on its exponent, says the same number.
-use Rattle.std.proofs.Common.{◌≡◌, ℕ, ◌+◌, ◌*◌, ◌^◌, ◌≤◌, ◌<◌, List, ◌++◌, length, length-append, min, ap, sym, ◌∙◌, arith, Bool, true, false, not, ◌&&◌, ◌||◌, ◌⊎◌, inl, inr, if◌then◌else◌, refl, nat_le, unsigned_abs, Ok, Err}
+use Rattle.std.proofs.Common.{◌≡◌, ℕ, ◌+◌, ◌*◌, ◌^◌, ◌≤◌, ◌<◌, List, ◌++◌, length, length-append, min, ap, sym, ◌∙◌, arith, Bool, true, false, not, ◌||◌, ◌⊎◌, inl, inr, if◌then◌else◌, refl, nat_le, unsigned_abs, Ok, Err}
 use Rattle.std.proofs.lemmas.Bool.{cases_lt, and_from, and_parts}
 use Rattle.std.proofs.lemmas.Grind.{common_steps}
 use Rattle.std.specs.List.{list_all}
 use Rattle.std.specs.Char.{is_ascii_digit}
-use Rattle.sop_fixed.specs.Numbers.{signed, nearest, largest_size, is_real}
+use Rattle.sop_fixed.specs.Numbers.{signed, nearest, largest_size}
 use Rattle.sop_fixed.specs.Numerals.{number_of, is_some_digits, places_up, places_down, has_minus, after_sign, size_of, whole_of, fraction_of, digits_of, in_range, value_of, mantissa_of, exponent_of, has_exponent, is_numeral, rounded_of}
 use Rattle.sop_fixed.specs.declared.fault.NumeralFault.TheVariants.{NotNumeral, OutOfRange}
 use Rattle.sop_fixed.proofs.Rounding.{places_capped}

@@ -1,18 +1,18 @@
 -- What a number prints as reads back as that number.
-use Rattle.std.proofs.Common.{◌≡◌, ℕ, ◌+◌, ◌-◌, ◌*◌, ◌/◌, ◌%◌, ◌^◌, ◌≤◌, ◌<◌, min, List, None, is_some, position, [], ◌∷◌, ◌++◌, length, length-append, append_assoc, append-nil, take, drop, replicate, reverse, get_or, ap, sym, ◌∙◌, arith, rules, Bool, true, false, not, ◌&&◌, ◌||◌, ◌==◌, inl, inr, if◌then◌else◌, refl, suc, zero, decimal, ℤ, pos, negsuc, unsigned_abs, Ok, Err, nat_le, nat_lt, subst}
+use Rattle.std.proofs.Common.{◌≡◌, ℕ, ◌+◌, ◌-◌, ◌*◌, ◌/◌, ◌%◌, ◌^◌, ◌≤◌, ◌<◌, min, List, None, is_some, position, [], ◌∷◌, ◌++◌, length, length-append, append-nil, take, drop, replicate, reverse, get_or, ap, sym, ◌∙◌, arith, rules, Bool, true, false, not, ◌||◌, ◌==◌, if◌then◌else◌, refl, suc, zero, decimal, ℤ, pos, negsuc, unsigned_abs, Ok, Err, nat_le, nat_lt}
 use Rattle.std.proofs.lemmas.Nat.{pow-add}
 use Rattle.std.proofs.lemmas.Bool.{and_from, and_parts}
 use Rattle.std.proofs.lemmas.Grind.{common_steps}
 use Rattle.std.proofs.lemmas.Fmt.{digits_decimal, digits_value-decimal, decimal_nonempty, length-decimal-le}
 use Rattle.std.proofs.lemmas.Str.Parse.{IsNumeralModel, numerals_by_weight}
-use Rattle.std.proofs.lemmas.List.{drop_all, take-append-drop, length-drop, length-reverse, length-replicate, length-take-le, get_or-reverse, get_or-replicate, get_or-drop}
+use Rattle.std.proofs.lemmas.List.{drop_all, take-append-drop, length-drop, length-replicate, length-take-le, get_or-reverse, get_or-replicate, get_or-drop}
 use Rattle.std.proofs.lemmas.List.Folds.{list_all-append}
 use Rattle.std.proofs.lemmas.List.Sums.{prefix_len_passes, suffix_len-le-length}
 use Rattle.std.proofs.Math.Seq.{take-append_seam, drop-append-add, take-length}
-use Rattle.std.specs.List.{list_all, prefix_len, suffix_len, position_or_len, before_first, after_first}
+use Rattle.std.specs.List.{list_all, prefix_len, suffix_len, before_first, after_first}
 use Rattle.std.specs.Char.{is_ascii_digit}
-use Rattle.sop_fixed.specs.Numbers.{signed, is_negative, nearest, largest_size, is_real}
-use Rattle.sop_fixed.specs.Numerals.{number_of, is_sign, is_point, is_exponent_mark, is_some_digits, places_up, places_down, has_minus, after_sign, size_of, whole_of, fraction_of, digits_of, in_range, value_of, mantissa_of, exponent_of, has_exponent, is_numeral, rounded_of, six_digits, is_zero_digit, without_last_zeros, fraction_text, sign_text, decimal_of}
+use Rattle.sop_fixed.specs.Numbers.{signed, is_negative, nearest, largest_size}
+use Rattle.sop_fixed.specs.Numerals.{number_of, is_sign, is_point, is_exponent_mark, is_some_digits, has_minus, after_sign, whole_of, fraction_of, in_range, value_of, mantissa_of, exponent_of, has_exponent, six_digits, is_zero_digit, without_last_zeros, fraction_text, sign_text, decimal_of}
 use Rattle.sop_fixed.specs.declared.fault.NumeralFault.TheVariants.{OutOfRange}
 use Rattle.sop_fixed.proofs.Rounding.{number_of-append, nearest_whole}
 use Rattle.sop_fixed.proofs.Reading.{value_of_parts}
@@ -55,7 +55,7 @@ number_of-without_last_zeros : (xs : List ℕ) → number_of xs ≡ number_of (w
 number_of-without_last_zeros xs =
     let kept = length xs - suffix_len is_zero_digit xs in
     let zeros : number_of (drop kept xs) ≡ 0 = number_of_zeros (drop kept xs) (λ j h.
-      ap is_zero_digit (get_or-drop kept xs j 0) ∙ zero_behind xs (kept + j) (omega arith) (omega (arith, h, length-drop kept xs))) in
+    ap is_zero_digit (get_or-drop kept xs j 0) ∙ zero_behind xs (kept + j) (omega arith) (omega (arith, h, length-drop kept xs))) in
     let len : length xs - length (take kept xs) ≡ length (drop kept xs) = omega (arith, length-take-le kept xs (omega arith), length-drop kept xs) in
     ap number_of (sym (take-append-drop kept xs)) ∙ number_of-append (take kept xs) (drop kept xs)
     ∙ ap (λ n. number_of (take kept xs) * 10 ^ length (drop kept xs) + n) zeros
@@ -201,8 +201,8 @@ reads_back x h =
     let printed : size ≡ min (nearest (number_of (units ++ places) * 10 ^ (6 + 0)) (10 ^ (length places + 0))) 10000000000000000 =
     omega (arith, size-printed units places (size / 1000000) (size % 1000000) (number_of-decimal (size / 1000000) (omega arith)) short fraction) in
     sym (value_of_parts (decimal_of x) units places [] 0 0 (length (units ++ places) + 32) 10000000000000000 size
-      (sym (ap whole_of mantissa ∙ whole-printed units places u)) (sym (ap fraction_of mantissa ∙ fraction-printed units places u)) (sym exponent)
-      (some_digits units places some u p)
-      (ap (λ b. not b || is_some_digits []) plain)
-      (omega arith) (omega arith) (omega arith) (omega arith) (omega arith) printed)
+    (sym (ap whole_of mantissa ∙ whole-printed units places u)) (sym (ap fraction_of mantissa ∙ fraction-printed units places u)) (sym exponent)
+    (some_digits units places some u p)
+    (ap (λ b. not b || is_some_digits []) plain)
+    (omega arith) (omega arith) (omega arith) (omega arith) (omega arith) printed)
     ∙ ap (λ b. in_range (signed b size)) minus ∙ ap in_range (signed_of_abs x) ∙ in_range_real x h

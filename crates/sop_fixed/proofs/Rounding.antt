@@ -1,5 +1,5 @@
 -- Digits times powers of ten, rounded: the first digit that is cut decides, and a cap keeps what lies below it.
-use Rattle.std.proofs.Common.{◌≡◌, ℕ, ◌+◌, ◌-◌, ◌*◌, ◌/◌, ◌^◌, ◌≤◌, ◌<◌, List, [], ◌∷◌, ◌++◌, length, length-append, take, drop, refl, ap, sym, ◌∙◌, subst, arith, Bool, true, ◌&&◌, rules, zero, suc}
+use Rattle.std.proofs.Common.{◌≡◌, ℕ, ◌+◌, ◌-◌, ◌*◌, ◌/◌, ◌^◌, ◌≤◌, ◌<◌, List, [], ◌∷◌, ◌++◌, length, length-append, take, drop, refl, ap, sym, ◌∙◌, subst, arith, Bool, true, ◌&&◌, suc}
 use Rattle.std.proofs.lemmas.Nat.{pow-add, div-mul-add}
 use Rattle.std.proofs.lemmas.Grind.{common_steps}
 use Rattle.std.proofs.Math.Nat.{one-le-pow, pow-succ', mul-le-mul_right, mul-le-mul_left, mul-div-mul_right}
@@ -74,11 +74,11 @@ cut_at_digit q d rest h =
     let e : 10 ^ length (d ∷ rest) ≡ 10 * 10 ^ length rest = pow-succ' 10 (length rest) in
     elim (cases_lt (d - 48) 5) [
       | inl low ↦
-        let under : 2 * number_of (d ∷ rest) < 10 * 10 ^ length rest = first_digit (d - 48) (number_of rest) (10 ^ length rest) small (omega arith) in
-        half_down q (number_of (d ∷ rest)) (10 ^ length (d ∷ rest)) (omega (arith, under, e)) ∙ (let z : q ≡ q + round_up d = grind (arith, common_steps) in z)
+          let under : 2 * number_of (d ∷ rest) < 10 * 10 ^ length rest = first_digit (d - 48) (number_of rest) (10 ^ length rest) small (omega arith) in
+          half_down q (number_of (d ∷ rest)) (10 ^ length (d ∷ rest)) (omega (arith, under, e)) ∙ (let z : q ≡ q + round_up d = grind (arith, common_steps) in z)
       | inr high ↦
-        let over : 10 * 10 ^ length rest ≤ 2 * number_of (d ∷ rest) = first_digit_up (d - 48) (number_of rest) (10 ^ length rest) high in
-        half_up q (number_of (d ∷ rest)) (10 ^ length (d ∷ rest)) (omega (arith, over, e)) all ∙ (let z : q + 1 ≡ q + round_up d = grind (arith, common_steps) in z)
+          let over : 10 * 10 ^ length rest ≤ 2 * number_of (d ∷ rest) = first_digit_up (d - 48) (number_of rest) (10 ^ length rest) high in
+          half_up q (number_of (d ∷ rest)) (10 ^ length (d ∷ rest)) (omega (arith, over, e)) all ∙ (let z : q + 1 ≡ q + round_up d = grind (arith, common_steps) in z)
     ]
 
 -- the digits before place n, and the digit there, where the rest is cut
@@ -86,7 +86,7 @@ pub nearest_cut : (digits : List ℕ) (n : ℕ) → n < length digits → list_a
     → nearest (number_of digits) (10 ^ (length digits - n)) ≡ number_of (take n digits) + round_up (get_or digits n 0)
 nearest_cut digits n h all =
     let split : digits ≡ take n digits ++ (get_or digits n 0 ∷ drop (n + 1) digits) =
-        sym (take-append-drop n digits) ∙ ap (λ l. take n digits ++ l) (let e : drop n digits ≡ get_or digits n 0 ∷ drop (n + 1) digits = rw (add-one, drop-cons digits n 0) in e) in
+    sym (take-append-drop n digits) ∙ ap (λ l. take n digits ++ l) (let e : drop n digits ≡ get_or digits n 0 ∷ drop (n + 1) digits = rw (add-one, drop-cons digits n 0) in e) in
     let len : length digits - n ≡ length (get_or digits n 0 ∷ drop (n + 1) digits) = omega (arith, length-drop {A = ℕ}) in
     let parts : (list_all is_ascii_digit (take n digits) && list_all is_ascii_digit (get_or digits n 0 ∷ drop (n + 1) digits)) ≡ true = sym (list_all-append is_ascii_digit (take n digits) _) ∙ ap (list_all is_ascii_digit) (sym split) ∙ all in
     ap (λ k. nearest (number_of digits) (10 ^ k)) len
@@ -233,10 +233,10 @@ places_capped digits fraction up down far cap all within one room small =
         | inl no_up ↦ elim (cases_lt far down) [
           | inl beyond ↦ ap (λ n. min n cap) (nearest_far_down digits (6 + min up far) (fraction + min down far) (omega arith) all ∙ sym (nearest_far_down digits (6 + up) (fraction + down) (omega arith) all))
           | inr near ↦ ap (λ u. scale u (min down far)) (let u : min up far ≡ up = omega arith in u) ∙ ap (scale up) (let d : min down far ≡ down = omega arith in d)
-          ]
+        ]
         | inr no_down ↦ elim (cases_lt far up) [
           | inl beyond ↦ nearest_far_up (number_of digits) (6 + min up far) (fraction + min down far) cap 16 some (omega arith) small ∙ sym (nearest_far_up (number_of digits) (6 + up) (fraction + down) cap 16 some (omega arith) small)
           | inr near ↦ ap (λ u. scale u (min down far)) (let u : min up far ≡ up = omega arith in u) ∙ ap (scale up) (let d : min down far ≡ down = omega arith in d)
-          ]
         ]
+      ]
     ]

@@ -44,7 +44,11 @@ fn front(whole: &[u8], fraction: &[u8], kept: usize) -> u128
     if kept <= whole.len() {
         return number_within(0, &whole[..kept], SIZE_CAP);
     }
-    number_within(number_within(0, whole, SIZE_CAP), &fraction[..kept - whole.len()], SIZE_CAP)
+    number_within(
+        number_within(0, whole, SIZE_CAP),
+        &fraction[..kept - whole.len()],
+        SIZE_CAP,
+    )
 }
 
 fn digit_at(whole: &[u8], fraction: &[u8], i: usize) -> u8
@@ -62,7 +66,11 @@ fn digit_at(whole: &[u8], fraction: &[u8], i: usize) -> u8
 fn round_up(digit: u8) -> u128
     ensures { result ≡ (if nat_le 5 (digit - 48) then 1 else 0) }
 {
-    if digit.saturating_sub(b'0') >= 5 { 1 } else { 0 }
+    if digit.saturating_sub(b'0') >= 5 {
+        1
+    } else {
+        0
+    }
 }
 
 /// The digits of both parts times 10 ^ up, over 10 ^ down, to the nearest, or the cap where it is more.

@@ -6,6 +6,7 @@ use crate::fault::NumFault;
 use std::marker::Model;
 
 const SMALLEST: i64 = -2_147_483_648;
+
 const LARGEST: i64 = 2_147_483_647;
 
 /// A whole number from -2,147,483,648 to 2,147,483,647.

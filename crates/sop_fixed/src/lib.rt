@@ -8,11 +8,11 @@ pub mod numeral;
 pub mod real;
 pub mod vec3;
 
-#[cfg(test)]
-mod tests;
-
 pub use fault::{NumFault, NumeralFault};
 pub use int::Int;
 pub use numeral::{print, read_numeral};
 pub use real::Real;
 pub use vec3::Vec3;
+
+#[cfg(test)]
+mod tests;

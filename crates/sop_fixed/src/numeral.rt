@@ -28,7 +28,10 @@ pub fn read_numeral(text: &[u8]) -> Result<Real, NumeralFault>
         return Err(NumeralFault::NotNumeral);
     }
     let (up, down) = places(exponent);
-    real_within(negative, scaled(whole, fraction, 6 + up, fraction.len() as u128 + down))
+    real_within(
+        negative,
+        scaled(whole, fraction, 6 + up, fraction.len() as u128 + down),
+    )
 }
 
 /// Whether the text begins with a minus, and what follows its sign.

@@ -4,7 +4,14 @@ use std::test::Fail;
 #[test]
 fn numerals_are_read_and_printed(rt: HostRuntime) -> Result<(), Fail> {
     let mut text = Vec::new(rt.alloc());
-    for numeral in [&b"-0.0000005"[..], b" ", b"1e-9", b"0e999999999", b"1.e-999999999", b"10020.30"] {
+    for numeral in [
+        &b"-0.0000005"[..],
+        b" ",
+        b"1e-9",
+        b"0e999999999",
+        b"1.e-999999999",
+        b"10020.30",
+    ] {
         match read_numeral(numeral) {
             Ok(x) => print(x, &mut text)?,
             Err(fault) => assert!(rt; fault == NumeralFault::NotNumeral),

@@ -1,7 +1,5 @@
 use Rattle.sop_fixed.proofs.Rounding.{cut_some, nearest_none}
-use Rattle.std.proofs.Common.{◌≡◌, ◌++◌, ◌-◌, ◌<◌, ◌^◌, ◌∙◌, ℕ, List, length, length-append, arith, sym, ap, min}
-use Rattle.sop_fixed.specs.Numerals.{number_of}
-use Rattle.sop_fixed.specs.Numbers.{nearest}
+use Rattle.std.proofs.Common.{◌++◌, ◌∙◌, ℕ, List, length-append, arith, sym, ap, min}
 use Rattle.sop_fixed.proofs.Rounding.{round_up}
 use Rattle.sop_fixed.proofs.digits.cut.Goals as goal
 

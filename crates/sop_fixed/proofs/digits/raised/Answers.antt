@@ -5,7 +5,8 @@ use Rattle.sop_fixed.proofs.digits.raised.Goals as goal
 pub loop-by-preserved : goal.loop-by-preserved
 loop-by-preserved c = (
   omega arith,
-  ap (λ n. min (n * 10 ^ (c.loop-by.by - 1)) c.args.cap) c.min-number.ensures ∙ raised_more c.loop-by.number c.loop-by.by c.args.cap (omega arith) ∙ c.loop-by.invariant.1)
+  ap (λ n. min (n * 10 ^ (c.loop-by.by - 1)) c.args.cap) c.min-number.ensures ∙ raised_more c.loop-by.number c.loop-by.by c.args.cap (omega arith) ∙ c.loop-by.invariant.1,
+)
 
 pub returns-else-number-cap : goal.returns-else-number-cap
 returns-else-number-cap c =

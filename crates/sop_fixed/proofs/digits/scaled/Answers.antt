@@ -1,5 +1,5 @@
 use Rattle.sop_fixed.proofs.Rounding.{whole_raised, number_of_both, nearest_less}
-use Rattle.std.proofs.Common.{◌≡◌, ◌++◌, ◌∙◌, ℕ, List, arith, sym, ap, min}
+use Rattle.std.proofs.Common.{◌++◌, ◌∙◌, arith, sym, ap, min}
 use Rattle.sop_fixed.specs.Numerals.{number_of}
 use Rattle.sop_fixed.proofs.digits.scaled.Goals as goal
 

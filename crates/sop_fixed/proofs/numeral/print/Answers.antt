@@ -1,4 +1,4 @@
-use Rattle.std.proofs.Common.{◌≡◌, ◌++◌, ◌*◌, ◌/◌, ◌%◌, ℕ, List, Result, Ok, Err, OnOk, is_ok, cond, decimal, append_assoc, ap, sym, refl, ◌∙◌, arith, rules, unsigned_abs}
+use Rattle.std.proofs.Common.{◌≡◌, ◌++◌, ◌/◌, ◌%◌, ℕ, List, Result, Ok, Err, OnOk, is_ok, cond, decimal, append_assoc, ap, ◌∙◌, rules, unsigned_abs}
 use Rattle.std.proofs.lemmas.Slice.{pushed}
 use Rattle.sop_fixed.specs.Numbers.{is_negative}
 use Rattle.sop_fixed.specs.Numerals.{sign_text, fraction_text, six_digits, without_last_zeros, decimal_of}

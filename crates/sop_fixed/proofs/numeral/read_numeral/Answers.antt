@@ -1,5 +1,5 @@
-use Rattle.std.proofs.Common.{◌≡◌, ◌≤◌, ◌++◌, ◌+◌, ◌||◌, not, length, length-append, true, rules, arith, ap, sym, ◌∙◌}
-use Rattle.sop_fixed.specs.Numerals.{in_range, whole_of, fraction_of, mantissa_of, exponent_of, has_exponent, has_minus, after_sign, is_some_digits}
+use Rattle.std.proofs.Common.{◌≡◌, ◌≤◌, ◌++◌, ◌+◌, ◌||◌, not, length, length-append, true, rules, arith, ap, ◌∙◌}
+use Rattle.sop_fixed.specs.Numerals.{in_range, whole_of, fraction_of, mantissa_of, exponent_of, has_exponent, after_sign, is_some_digits}
 use Rattle.sop_fixed.specs.Numbers.{signed}
 use Rattle.sop_fixed.proofs.Reading.{value_of_parts}
 use Rattle.sop_fixed.proofs.numeral.read_numeral.Goals as goal
