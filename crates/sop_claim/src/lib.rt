@@ -12,3 +12,6 @@ mod rule;
 pub use board::{Board, BoardEnd, Pass};
 pub use machine::{Core, Event, NotNow, Standing, claims_end_well, core_new, core_step};
 pub use rule::View;
+
+#[cfg(test)]
+mod tests;
