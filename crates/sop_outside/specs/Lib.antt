@@ -1,0 +1,5 @@
+pub mod Causes
+pub mod Told
+pub mod Load
+pub mod MemFiles
+pub mod MemSink

@@ -1,0 +1,110 @@
+ghost use Rattle.std.specs.Prelude.{◌≡◌, ◌<◌, [], ◌∷◌, ◌++◌, length, OnOk, IfErr, OnErr, slice_get, Some, option_to_list, ◌↔◌, IsNone, IsTrue};
+
+use std::alloc::{AllocError, Global};
+use std::marker::Model;
+
+/// A growing list, which contracts see as the list of its items.
+#[derive(Debug, Drop)]
+pub struct Items<T> {
+    inner: Vec<T>,
+}
+
+/// A list of bytes.
+pub type ByteList = Items<u8>;
+
+impl<T> Model for Items<T> {
+    ghost use Rattle.std.specs.Prelude.{List};
+    ghost use Rattle.std.specs.Coded.{coded_list};
+
+    ghost Value = { List T };
+
+    ghost coded = { coded_list T.code };
+
+    ghost view = { λ a. a.inner.items };
+}
+
+impl<T> Items<T> {
+    /// The list of no items. It takes memory from `alloc` when it grows.
+    pub fn new(alloc: Global) -> Items<T>
+        ensures { result ≡ [] }
+    {
+        Items {
+            inner: Vec::new(alloc),
+        }
+    }
+
+    /// The list of the items of `items`, without taking memory.
+    pub fn from_vec(items: Vec<T>) -> Items<T>
+        ensures { result ≡ items.items }
+    {
+        Items { inner: items }
+    }
+
+    /// The items as a `Vec`, without taking memory.
+    pub fn into_vec(self) -> Vec<T>
+        ensures { result.items ≡ self }
+    {
+        let Items { inner } = self;
+        inner
+    }
+
+    /// Appends an item, or hands it back for want of memory.
+    pub fn push(&mut self, item: T) -> Result<(), (T, AllocError)>
+        ensures ok { OnOk result (self.new ≡ self.old ++ item ∷ []) }
+        ensures err { OnErr result (self.new ≡ self.old) }
+        ensures returned { IfErr result (λ error. error.0 ≡ item) }
+    {
+        match self.inner.push(item) {
+            Ok(()) => Ok(()),
+            Err(failed) => Err((failed.value, AllocError)),
+        }
+    }
+
+    /// Takes the last item. It takes no memory.
+    pub fn pop(&mut self) -> Option<T>
+        ensures items { self.old ≡ self.new ++ option_to_list result }
+        ensures none { IsNone result ↔ (self.old ≡ []) }
+    {
+        self.inner.pop()
+    }
+
+    /// The number of items.
+    pub fn len(&self) -> usize
+        ensures { result ≡ length self.now }
+    {
+        self.inner.len()
+    }
+
+    /// Whether there is no item.
+    pub fn is_empty(&self) -> bool
+        ensures { IsTrue result ↔ (self.now ≡ []) }
+    {
+        self.inner.is_empty()
+    }
+
+    /// The item with the number `i`, from 0.
+    pub fn get(&self, i: usize) -> &T
+        requires { i < length self.now }
+        ensures { slice_get self.now i ≡ Some result.now }
+    {
+        &self.inner[i]
+    }
+
+    /// The items as a slice.
+    pub fn as_slice(&self) -> &[T]
+        ensures { result.now ≡ self.now }
+    {
+        self.inner.as_slice()
+    }
+}
+
+impl<T: Drop> Items<T> {
+    /// Appends an item, or drops it for want of memory.
+    pub fn add(&mut self, item: T) -> Result<(), AllocError>
+        ensures ok { OnOk result (self.new ≡ self.old ++ item ∷ []) }
+        ensures err { OnErr result (self.new ≡ self.old) }
+    {
+        self.inner.push(item)?;
+        Ok(())
+    }
+}
