@@ -137,3 +137,7 @@ haul_both {O} {F} fault_at admits board part more n one two both outs other all 
 pub ok_four : {A E : Type 0} (r : Result A E) (P Q R S T : A → Type 0) → ((a : A) → P a → Q a → R a → S a → T a) → IfOk r P → IfOk r Q → IfOk r R → IfOk r S → IfOk r T
 ok_four (Ok a) P Q R S T f p q r s = f a p q r s
 ok_four (Err e) P Q R S T f p q r s = tt
+
+-- a fact of the value that was answered
+pub ok_value : {A E : Type 0} (r : Result A E) (a : A) (P : A → Type 0) → r ≡ Ok a → IfOk r P → P a
+ok_value r a P is h = subst (λ s. IfOk s P) is h

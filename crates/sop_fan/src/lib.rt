@@ -8,3 +8,6 @@ mod worker;
 
 pub use fan::gather;
 pub use job::{FanEnd, Job, Stop};
+
+#[cfg(test)]
+mod tests;

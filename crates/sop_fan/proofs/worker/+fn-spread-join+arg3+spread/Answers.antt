@@ -1,9 +1,8 @@
-use Rattle.std.proofs.Common.{◌≡◌, ◌+◌, ◌++◌, subst, ap, arith}
-use Rattle.std.specs.Prelude.{IfOk}
+use Rattle.std.proofs.Common.{◌≡◌, ◌+◌, ◌++◌, ap, arith}
 use Rattle.sop_claim.specs.Views.{share, joined}
 use Rattle.sop_claim.specs.Passes.{view_of, IsPassOf}
 use Rattle.sop_fan.specs.Hauls.{IsHaul, lesser}
-use Rattle.sop_fan.proofs.Carrying.{haul_both, ok_four}
+use Rattle.sop_fan.proofs.Carrying.{haul_both, ok_four, ok_value}
 use Rattle.sop_fan.proofs.worker.+fn-spread-join+arg3+spread.Goals as goal
 
 pub returns : goal.returns
@@ -12,8 +11,8 @@ returns g t c =
     let others = c.in_ok-others.field-0 in let one = c.in_ok-one.field-0 in
     let left = share (view_of c.split.new.pass) in let gone = share (view_of c.in_ok-other.other) in
     let parts : left + gone ≡ share (view_of c.args.pass) = (let a = ap share c.split.ensures.left in let b = ap share c.in_ok-other.ensures.other.1 in let d = c.requires.some in let e = c.requires.room in omega arith) in
-    let first : IsHaul fault_at admits board left others.pass others.outs.items others.fault = subst (λ r. IfOk r (λ haul. IsHaul fault_at admits board left haul.pass haul.outs.items haul.fault)) c.in_ok-others.was c.join-one.ensures.second in
-    let second : IsHaul fault_at admits board gone one.pass one.outs.items one.fault = subst (λ r. IfOk r (λ haul. IsHaul fault_at admits board gone haul.pass haul.outs.items haul.fault)) c.in_ok-one.was c.join-one.ensures.first in
+    let first = ok_value c.join-one.result.1 others (λ haul. IsHaul fault_at admits board left haul.pass haul.outs.items haul.fault) c.in_ok-others.was c.join-one.ensures.second in
+    let second = ok_value c.join-one.result.0 one (λ haul. IsHaul fault_at admits board gone haul.pass haul.outs.items haul.fault) c.in_ok-one.was c.join-one.ensures.first in
     ok_four c.merged.result
     (λ both. IsPassOf board both.pass)
     (λ both. view_of both.pass ≡ joined (view_of others.pass) (view_of one.pass))
