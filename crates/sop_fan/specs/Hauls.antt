@@ -24,7 +24,7 @@ IsBlank v = (v.drawn ≡ []) × (v.done ≡ []) × (v.faulty ≡ []) × (v.skipp
 abbrev pub AllSettled : View → Type 0
 AllSettled v = (x : ℕ) → settled x v ≡ times x v.drawn
 
--- nothing was drawn
+-- a pass that drew nothing more, and has the same room
 abbrev pub SameDraws : View → View → Type 0
 SameDraws old new = (new.drawn ≡ old.drawn) × (new.room ≡ old.room) × (new.missed ≡ old.missed)
 
