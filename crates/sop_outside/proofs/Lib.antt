@@ -1,2 +1,3 @@
+mod Examples
 pub mod Appended
 pub mod Names

@@ -9,6 +9,9 @@ use std::marker::Model;
 use std::{io, rt};
 
 /// The files of the system, under their paths. They tell no bytes.
+///
+/// A load is Missing where opening the path finds nothing, TooLong where more bytes than the limit were read,
+/// Memory for want of memory, and Failed for every other failure, as of a directory.
 #[derive(Drop)]
 pub struct DiskFiles<'a, R: rt::Files> {
     system: &'a R,

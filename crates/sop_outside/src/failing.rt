@@ -6,13 +6,13 @@ use std::alloc::{AllocError, Global};
 
 /// Calls that fail, by their numbers from 1, and the number of the last call. It stops at 2^64 - 1.
 #[derive(Drop)]
-pub struct FailingCalls {
+pub(crate) struct FailingCalls {
     named: Items<u64>,
     calls: u64,
 }
 
 impl FailingCalls {
-    pub fn new(alloc: Global) -> FailingCalls
+    pub(crate) fn new(alloc: Global) -> FailingCalls
         ensures named { result.named ≡ [] }
         ensures calls { result.calls ≡ 0 }
     {
@@ -23,7 +23,7 @@ impl FailingCalls {
     }
 
     /// Names a call that fails.
-    pub fn add(&mut self, call: u64) -> Result<(), AllocError>
+    pub(crate) fn add(&mut self, call: u64) -> Result<(), AllocError>
         ensures ok { OnOk result (self.new.named ≡ self.old.named ++ call ∷ []) }
         ensures err { OnErr result (self.new.named ≡ self.old.named) }
         ensures calls { self.new.calls ≡ self.old.calls }
@@ -32,7 +32,7 @@ impl FailingCalls {
     }
 
     /// Counts a call, and says whether it fails.
-    pub fn next_fails(&mut self) -> bool
+    pub(crate) fn next_fails(&mut self) -> bool
         ensures calls { self.new.calls ≡ raised self.old.calls }
         ensures named { self.new.named ≡ self.old.named }
         ensures fails { IsTrue result ↔ Contains self.old.named self.new.calls }

@@ -86,7 +86,7 @@ impl Sink for MemSink {
         ensures size { IfOk result (λ count. count ≡ min (min self.old.piece self.old.room) (length bytes.now)) }
         ensures room { IfOk result (λ count. self.new.room + count ≡ self.old.room) }
         ensures room_stays { OnErr result (self.new.room ≡ self.old.room) }
-        ensures set { (self.new.piece ≡ self.old.piece) × (self.new.failing ≡ self.old.failing) }
+        ensures settings { (self.new.piece ≡ self.old.piece) × (self.new.failing ≡ self.old.failing) }
     {
         if must_fail(self.failing.next_fails(), self.room) {
             self.faults = self.faults.saturating_add(1);

@@ -1,0 +1,2 @@
+opadd file out
+opparm out file examples/numerals/tent.obj

@@ -1,0 +1,160 @@
+#!/usr/bin/env python3
+"""The repository's quick checks. They prove nothing: they run the built program, and look over the repository.
+
+    checks.py PROGRAM [--only WORD]
+
+The groups are examples (each gives its expected.obj), cases (tests/cases/*.jsonl), streams (what can't be written),
+limits, launcher (the script sopcook) and house (the layout of the repository). With --only a check runs where its group
+or name has WORD. The last line is 'N passed, M failed', and the status is 0 where none failed.
+"""
+import argparse
+import glob
+import json
+import os
+import subprocess
+import sys
+import tempfile
+
+import house
+import launcher
+
+TOP = os.path.dirname(os.path.dirname(os.path.realpath(__file__)))
+SECONDS = 60
+
+
+def cook(program, words, folder, **streams):
+    """Runs the program in a folder and returns its status and what it wrote, or why there is neither."""
+    streams = {"stdin": subprocess.DEVNULL, "stdout": subprocess.PIPE, "stderr": subprocess.PIPE, **streams}
+    try:
+        ran = subprocess.run([program, *words], cwd=folder, timeout=SECONDS, **streams)
+    except subprocess.TimeoutExpired:
+        return f"no answer in {SECONDS} s"
+    except OSError as error:
+        return f"the program doesn't run: {error.strerror}"
+    return ran.returncode, ran.stdout or b"", ran.stderr or b""
+
+
+def shown(answer):
+    """An answer in short, for a line of a report."""
+    if isinstance(answer, str):
+        return answer
+    status, out, err = answer
+    return f"status {status}, {len(out)} bytes on out {out[:60]!r}, err {err[:80]!r}"
+
+
+def compare(answer, wanted):
+    """Why the answer isn't the wanted one, or nothing."""
+    return "" if answer == wanted else f"got {shown(answer)}; want {shown(wanted)}"
+
+
+def examples(program):
+    for script in sorted(glob.glob(f"{TOP}/examples/*/*.cmd")):
+        name = os.path.relpath(script, TOP)
+        with open(f"{os.path.dirname(script)}/expected.obj", "rb") as file:
+            wanted = 0, file.read(), b""
+        yield name, lambda name=name, wanted=wanted: compare(cook(program, [name, "out"], TOP), wanted)
+    yield "the meshes are those of make_meshes.py", meshes
+
+
+def meshes():
+    ran = subprocess.run([sys.executable, f"{TOP}/examples/make_meshes.py", "--check"], capture_output=True, text=True)
+    return "" if ran.returncode == 0 else (ran.stdout + ran.stderr).strip()
+
+
+def in_folder(files, run):
+    """Runs in an empty folder that holds the files, by name and bytes."""
+    with tempfile.TemporaryDirectory() as folder:
+        for name, text in files.items():
+            os.makedirs(os.path.dirname(os.path.join(folder, name)), exist_ok=True)
+            with open(os.path.join(folder, name), "wb") as file:
+                file.write(text)
+        return run(folder)
+
+
+def cases(program):
+    """Each line of a table is a case: files, words, and the wanted status, out and err. Texts are read as latin-1."""
+    for table in sorted(glob.glob(f"{TOP}/tests/cases/*.jsonl")):
+        with open(table, encoding="utf-8") as lines:
+            for line in filter(str.strip, lines):
+                case = json.loads(line)
+                yield case["name"], lambda case=case: run_case(program, case)
+
+
+def run_case(program, case):
+    files = {name: text.encode("latin-1") for name, text in case["files"].items()}
+    wanted = case["status"], case["out"].encode("latin-1"), case["err"].encode("latin-1")
+    return in_folder(files, lambda folder: compare(cook(program, case["words"], folder), wanted))
+
+
+def streams(program):
+    """A stream that takes nothing gives status 6, unless there is nothing to write on it."""
+    files = {"s": b"opadd file f\nopparm f file a.obj\nopadd merge m\n", "a.obj": b"v 0 0 0\n"}
+    by_shell = lambda node, ending: ["-c", f'"$0" s {node} {ending}', program]
+    for name, node, ending, status in [
+        ("a full standard output", "f", ">/dev/full", 6),
+        ("a closed standard output", "f", ">&-", 6),
+        ("a full standard error", "x", "2>/dev/full", 6),
+        ("a closed standard error", "x", "2>&-", 6),
+        ("nothing to write on a full output", "m", ">/dev/full", 0),
+        ("a full standard error that isn't needed", "m", "2>/dev/full", 0),
+    ]:
+        words, wanted = by_shell(node, ending), (status, b"", b"")
+        yield name, lambda words=words, wanted=wanted: in_folder(
+            files, lambda folder: compare(cook("/bin/sh", words, folder), wanted)
+        )
+
+
+def limits(program):
+    """A geometry has at most 1,000,000 points, a script at most 4 MiB."""
+    merge = b"opadd file f\nopparm f file a.obj\nopadd merge m\nopwire m 0 f\nopwire m 1 f\n"
+    refused = 3, b"", b"sopcook: NotYet\n"
+    points = lambda count: b"v 0 0 0\n" * count
+    script = lambda lines: b"opadd file f\n" + b"opparm f file a.obj\n" * lines
+    for name, files, node, wanted in [
+        ("a merge of 1,000,000 points", {"s": merge, "a.obj": points(500_000)}, "m", (0, points(1_000_000), b"")),
+        ("a merge of 1,000,002 points", {"s": merge, "a.obj": points(500_001)}, "m", refused),
+        ("a script of 4,194,293 bytes", {"s": script(209_714), "a.obj": points(1)}, "f", (0, points(1), b"")),
+        ("a script of 4,194,313 bytes", {"s": script(209_715), "a.obj": points(1)}, "f", refused),
+    ]:
+        yield name, lambda files=files, node=node, wanted=wanted: in_folder(
+            files, lambda folder: compare(cook(program, ["s", node], folder), wanted)
+        )
+
+
+def outcome(check):
+    """Why a check fails, or nothing. One that can't be made fails too."""
+    try:
+        return check()
+    except (OSError, ValueError, subprocess.SubprocessError) as error:
+        return f"{type(error).__name__}: {error}"
+
+
+def main():
+    parser = argparse.ArgumentParser()
+    parser.add_argument("program")
+    parser.add_argument("--only", default="")
+    args = parser.parse_args()
+    program = os.path.abspath(args.program)
+    groups = {
+        "examples": examples(program),
+        "cases": cases(program),
+        "streams": streams(program),
+        "limits": limits(program),
+        "launcher": launcher.checks(TOP),
+        "house": house.checks(TOP),
+    }
+    passed = failed = 0
+    for group, checks in groups.items():
+        for name, check in checks:
+            if args.only not in f"{group}: {name}":
+                continue
+            problem = outcome(check)
+            passed, failed = passed + (not problem), failed + bool(problem)
+            if problem:
+                print(f"FAILED {group}: {name}: {problem}", flush=True)
+    print(f"{passed} passed, {failed} failed")
+    return 1 if failed else 0
+
+
+if __name__ == "__main__":
+    sys.exit(main())
