@@ -1,10 +1,9 @@
 -- Quotients and remainders, cut toward zero.
-use Rattle.std.proofs.Common.{◌≡◌, ℕ, ◌+◌, ◌-◌, ◌*◌, ◌/◌, ◌%◌, ◌^◌, ◌<◌, ◌≤◌, Bool, true, false, not, zero, suc, ℤ, pos, negsuc, neg_ℤ, ◌+ℤ◌, ◌-ℤ◌, ◌*ℤ◌, ◌≤ℤ◌, unsigned_abs, FitsSigned, w64, Result, Ok, refl, ap, sym, ◌∙◌, subst, arith}
-use Rattle.std.specs.Prelude.{int_div, int_rem, int_le, int_lt, nat_eq, nat_le}
+use Rattle.std.proofs.Common.{◌≡◌, ℕ, ◌/◌, ◌%◌, ◌≤◌, false, zero, suc, ℤ, pos, negsuc, neg_ℤ, ◌+ℤ◌, ◌-ℤ◌, ◌*ℤ◌, ◌≤ℤ◌, unsigned_abs, w64, Ok, refl, ap, ◌∙◌, arith}
+use Rattle.std.specs.Prelude.{int_div, int_rem, nat_eq}
 use Rattle.std.specs.Int.{cast_signed, cast_unsigned}
-use Rattle.std.proofs.lemmas.Int.{ints, quot_is, rem_is, quot-rem, rem_below, fits_signed_from_abs, unsigned_abs-mul}
+use Rattle.std.proofs.lemmas.Int.{ints, quot_is, rem_is, quot-rem, fits_signed_from_abs}
 use Rattle.std.proofs.Math.IntN.{*ℤ_comm}
-use Rattle.sop_fixed.specs.declared.fault.NumFault.{NumFault}
 use Rattle.std.proofs.Math.Nat.{div-le_self, mod-le}
 use Rattle.sop_fixed.specs.Numbers.{int_of, smallest_int, largest_int}
 use Rattle.sop_fixed.specs.Arithmetic.{is_zero, int_quotient_of, remainder_of}

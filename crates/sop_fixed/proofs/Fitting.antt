@@ -1,12 +1,11 @@
 -- A number that is moved from one range into another.
-use Rattle.std.proofs.Common.{◌≡◌, ℕ, ◌+◌, ◌-◌, ◌*◌, ◌/◌, ◌<◌, ◌≤◌, ◌⊎◌, inl, inr, zero, suc, Bool, true, false, not, ℤ, pos, negsuc, neg_ℤ, ◌+ℤ◌, ◌-ℤ◌, ◌*ℤ◌, ◌≤ℤ◌, ◌<ℤ◌, unsigned_abs, refl, ap, sym, ◌∙◌, subst, arith}
-use Rattle.std.specs.Prelude.{if◌then◌else◌}
+use Rattle.std.proofs.Common.{◌≡◌, ℕ, ◌+◌, ◌*◌, ◌<◌, ◌≤◌, zero, suc, Bool, true, false, ℤ, pos, negsuc, neg_ℤ, ◌+ℤ◌, ◌-ℤ◌, ◌*ℤ◌, ◌≤ℤ◌, ◌<ℤ◌, unsigned_abs, refl, ap, sym, ◌∙◌, arith}
 use Rattle.std.proofs.lemmas.Int.{ints, clamps, by_lt_z}
 use Rattle.std.proofs.Math.Nat.{div-eq_of_lt, div-lt_iff_lt-mul, mul-le-mul_right}
 use Rattle.std.proofs.Math.IntN.{zero-*ℤ}
 use Rattle.sop_fixed.proofs.Division.{not_zero}
 use Rattle.sop_fixed.specs.Numbers.{signed, is_negative, nearest}
-use Rattle.sop_fixed.specs.Arithmetic.{fit_of, is_zero, put_between, rounded, signs_differ}
+use Rattle.sop_fixed.specs.Arithmetic.{fit_of, put_between, rounded}
 
 -- a share of a number that is no more than the whole
 pub nearest_within : (p q w : ℕ) → 0 < w → p ≤ w → nearest (p * q) w ≤ q
@@ -28,7 +27,7 @@ nothing : (negative : Bool) (w : ℕ) → 0 < w → signed negative (nearest 0 w
 nothing true w h = ap (signed true) (nearest_nothing w h)
 nothing false w h = ap (signed false) (nearest_nothing w h)
 
-above : (n : ℕ) → is_negative (pos n) ≡ false
+pub above : (n : ℕ) → is_negative (pos n) ≡ false
 above n = grind arith
 
 -- a size with the sign put back, over a number above zero, and below it

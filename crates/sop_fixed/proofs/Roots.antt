@@ -1,8 +1,12 @@
 -- Square roots, cut to whole numbers: there is one, and `root_of` is it.
-use Rattle.std.proofs.Common.{◌≡◌, ℕ, ◌+◌, ◌-◌, ◌*◌, ◌/◌, ◌^◌, ◌<◌, ◌≤◌, ◌⊎◌, inl, inr, zero, suc, nat_le, Bool, true, false, refl, ap, sym, ◌∙◌, subst, arith}
+use Rattle.std.proofs.Common.{◌≡◌, ℕ, ◌+◌, ◌*◌, ◌/◌, ◌^◌, ◌<◌, ◌≤◌, inl, inr, zero, suc, sym, subst, arith}
 use Rattle.std.proofs.lemmas.Bool.{cases_lt}
 use Rattle.std.proofs.Math.Nat.{mul-le-mul, pow-succ'}
-use Rattle.sop_fixed.specs.Roots.{IsRoot, next_root, root_in, root_of}
+use Rattle.std.proofs.Common.{pos, Ok}
+use Rattle.std.specs.Prelude.{IsOkAnd}
+use Rattle.std.proofs.lemmas.Int.{ints}
+use Rattle.sop_fixed.specs.Numbers.{real_of}
+use Rattle.sop_fixed.specs.Roots.{IsRoot, IsRootOf, next_root, root_in, root_of}
 
 next_low : (r n : ℕ) → n < (2 * r + 1) * (2 * r + 1) → next_root r n ≡ 2 * r
 next_low r n h = grind arith
@@ -47,3 +51,12 @@ root_one n r s a b = elim (cases_lt r s) [
     | inr least ↦ omega (arith, more, least)
   ]
 ]
+
+root_small : (n root : ℕ) → root * root ≤ n → n ≤ 1000000000000000000000 → root ≤ 1000000000000000
+root_small n root h b = grind arith
+
+real_of_size : (root : ℕ) → root ≤ 1000000000000000 → real_of (pos root) ≡ Ok (pos root)
+real_of_size root h = grind arith
+
+pub sqrt_greatest : (n root : ℕ) → n ≤ 1000000000000000000000 → IsRoot n root → IsOkAnd (real_of (pos root)) (λ r. IsRootOf n r)
+sqrt_greatest n root b h = rw (real_of_size root (root_small n root h.within b)) (omega (arith, ints), h)

@@ -1,10 +1,10 @@
 -- What the operations on Reals and Ints give: a number, Range or DivZero. All is reckoned on whole numbers without bound.
-use Rattle.std.specs.Prelude.{◌≡◌, ℕ, ◌+◌, ◌*◌, ◌/◌, ◌<◌, ◌≤◌, Bool, not, if◌then◌else◌, nat_eq, nat_le, zero, suc, ℤ, pos, ◌+ℤ◌, ◌-ℤ◌, ◌*ℤ◌, unsigned_abs, int_div, Result, Ok, Err}
+use Rattle.std.specs.Prelude.{◌≡◌, ◌*◌, ◌≤◌, Bool, not, if◌then◌else◌, nat_eq, ℤ, pos, ◌+ℤ◌, ◌-ℤ◌, ◌*ℤ◌, ◌≤ℤ◌, ◌<ℤ◌, unsigned_abs, int_div, Result, Ok, Err}
 use Rattle.std.specs.Bool.{beq}
 use Rattle.std.specs.Int.{int_max, int_min, int_rem_euclid}
 use Rattle.sop_fixed.specs.Numbers.{signed, is_negative, nearest, real_of, int_of}
 use Rattle.sop_fixed.specs.declared.fault.NumFault.{NumFault}
-use Rattle.sop_fixed.specs.declared.fault.NumFault.TheVariants.{Range, DivZero}
+use Rattle.sop_fixed.specs.declared.fault.NumFault.TheVariants.{DivZero}
 
 -- The millionths of one unit.
 abbrev pub unit : ℤ
@@ -20,6 +20,11 @@ signs_differ a b = not (beq (is_negative a) (is_negative b))
 -- a / b to the nearest whole number, halves away from zero.
 abbrev pub rounded : ℤ → ℤ → ℤ
 rounded a b = signed (signs_differ a b) (nearest (unsigned_abs a) (unsigned_abs b))
+
+-- What `rounded` gives: no whole number is nearer to a / b than q is, and one as near isn't farther from zero.
+pub record IsNearest (a b q : ℤ) : Type 0 where
+  pub near : 2 * unsigned_abs (a -ℤ q *ℤ b) ≤ unsigned_abs b
+  pub away : 2 * unsigned_abs (a -ℤ q *ℤ b) ≡ unsigned_abs b → unsigned_abs a ≤ unsigned_abs (q *ℤ b)
 
 -- Two Reals. A product of millionths is one of millionths of millionths, so it is divided by a unit, and a dividend
 -- is multiplied by one.
@@ -42,6 +47,12 @@ remainder_of a b = if is_zero b then Err DivZero else Ok (a -ℤ b *ℤ int_div 
 -- The greatest whole number of units that is at most x.
 abbrev pub floor_of : ℤ → ℤ
 floor_of x = x -ℤ int_rem_euclid x unit
+
+-- What `floor_of` gives.
+pub record IsFloor (x floor : ℤ) : Type 0 where
+  pub whole : floor ≡ int_div floor unit *ℤ unit
+  pub most : floor ≤ℤ x
+  pub next : x <ℤ (floor +ℤ unit)
 
 -- The units of x, cut toward zero.
 abbrev pub units_of : ℤ → ℤ

@@ -1,5 +1,5 @@
 -- Square roots, cut to whole numbers.
-use Rattle.std.specs.Prelude.{ℕ, ◌+◌, ◌*◌, ◌/◌, ◌<◌, ◌≤◌, if◌then◌else◌, nat_le, zero, suc, ℤ, pos, unsigned_abs, Result, Ok, Err}
+use Rattle.std.specs.Prelude.{ℕ, ◌+◌, ◌*◌, ◌/◌, ◌<◌, ◌≤◌, if◌then◌else◌, nat_le, zero, suc, ℤ, pos, ◌≤ℤ◌, unsigned_abs, Result, Err}
 use Rattle.sop_fixed.specs.Numbers.{is_negative, real_of}
 use Rattle.sop_fixed.specs.declared.fault.NumFault.{NumFault}
 use Rattle.sop_fixed.specs.declared.fault.NumFault.TheVariants.{Range}
@@ -9,7 +9,11 @@ pub record IsRoot (n root : ℕ) : Type 0 where
   pub within : root * root ≤ n
   pub next : n < (root + 1) * (root + 1)
 
--- That number, found from the root of a quarter of n: twice that one, or one more where its square still fits.
+-- It is the number r, which isn't below zero.
+abbrev pub IsRootOf : ℕ → ℤ → Type 0
+IsRootOf n r = (pos 0 ≤ℤ r) × IsRoot n (unsigned_abs r)
+
+-- That number, reckoned from the root of a quarter of n: twice that one, or one more where its square still fits.
 abbrev pub next_root : ℕ → ℕ → ℕ
 next_root half n = if nat_le ((2 * half + 1) * (2 * half + 1)) n then 2 * half + 1 else 2 * half
 

@@ -1,5 +1,5 @@
 //! Whole numbers of 32 bits.
-ghost use Rattle.std.specs.Prelude.{◌≡◌, ◌≤◌, ◌≤ℤ◌, unsigned_abs};
+ghost use Rattle.std.specs.Prelude.{◌≡◌, ◌≤◌, ◌<◌, ◌≤ℤ◌, unsigned_abs, IfOk};
 ghost use Rattle.sop_fixed.specs.Arithmetic.{int_difference_of, int_product_of, int_quotient_of, int_sum_of, real_of_int, remainder_of};
 ghost use Rattle.sop_fixed.specs.Numbers.{int_of, smallest_int, largest_int};
 
@@ -91,7 +91,8 @@ impl Int {
 
     /// What is left after `b` is taken away as often as `div` says, with the sign of `self`; `DivZero` where `b` is zero.
     pub fn rem(self, b: Int) -> Result<Int, NumFault>
-        ensures { result ≡ remainder_of self b }
+        ensures value { result ≡ remainder_of self b }
+        ensures less { IfOk result (λ r. unsigned_abs r < unsigned_abs b) }
     {
         if b.number == 0 {
             return Err(NumFault::DivZero);

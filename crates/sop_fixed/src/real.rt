@@ -1,8 +1,8 @@
 //! Numbers in millionths.
-ghost use Rattle.std.specs.Prelude.{◌≡◌, ◌≤◌, ◌<◌, ◌≤ℤ◌, ◌+ℤ◌, ◌-ℤ◌, unsigned_abs};
+ghost use Rattle.std.specs.Prelude.{◌≡◌, ◌≤◌, ◌<◌, ◌≤ℤ◌, ◌+ℤ◌, ◌-ℤ◌, ◌*ℤ◌, ◌*◌, pos, unsigned_abs, IfOk, IsOkAnd};
 ghost use Rattle.std.specs.Int.{int_max, int_min};
-ghost use Rattle.sop_fixed.specs.Arithmetic.{difference_of, fit_of, floor_of, product_of, put_between, quotient_of, remainder_of, sum_of, units_of};
-ghost use Rattle.sop_fixed.specs.Roots.{sqrt_of, square};
+ghost use Rattle.sop_fixed.specs.Arithmetic.{IsFloor, IsNearest, difference_of, fit_of, floor_of, product_of, put_between, quotient_of, remainder_of, sum_of, unit, units_of};
+ghost use Rattle.sop_fixed.specs.Roots.{IsRootOf, sqrt_of, square};
 ghost use Rattle.sop_fixed.specs.Numbers.{signed, is_negative, real_of, largest_size};
 
 use crate::fault::NumFault;
@@ -70,7 +70,8 @@ impl Real {
 
     /// The product to the nearest millionth, halves away from zero; `Range` where it is no Real.
     pub fn mul(self, b: Real) -> Result<Real, NumFault>
-        ensures { result ≡ product_of self b }
+        ensures value { result ≡ product_of self b }
+        ensures nearest { IfOk result (λ r. IsNearest (self *ℤ b) unit r) }
     {
         let size = nearest(product(self.size(), b.size()), UNIT as u64);
         Real::of_parts(self.is_negative() != b.is_negative(), size)
@@ -79,7 +80,8 @@ impl Real {
     /// The quotient to the nearest millionth, halves away from zero; `DivZero` where `b` is zero, `Range` where the
     /// quotient is no Real.
     pub fn div(self, b: Real) -> Result<Real, NumFault>
-        ensures { result ≡ quotient_of self b }
+        ensures value { result ≡ quotient_of self b }
+        ensures nearest { IfOk result (λ r. IsNearest (self *ℤ unit) b r) }
     {
         if b.size() == 0 {
             return Err(NumFault::DivZero);
@@ -91,7 +93,8 @@ impl Real {
     /// What is left, exactly, after `b` is taken away as often as the quotient says, cut toward zero; with the sign of
     /// `self`; `DivZero` where `b` is zero.
     pub fn rem(self, b: Real) -> Result<Real, NumFault>
-        ensures { result ≡ remainder_of self b }
+        ensures value { result ≡ remainder_of self b }
+        ensures less { IfOk result (λ r. unsigned_abs r < unsigned_abs b) }
     {
         if b.millionths == 0 {
             return Err(NumFault::DivZero);
@@ -103,7 +106,8 @@ impl Real {
 
     /// The square root, cut to millionths; `Range` where `self` is below zero.
     pub fn sqrt(self) -> Result<Real, NumFault>
-        ensures { result ≡ sqrt_of self }
+        ensures value { result ≡ sqrt_of self }
+        ensures greatest { pos 0 ≤ℤ self → IsOkAnd result (λ r. IsRootOf (unsigned_abs self * 1000000) r) }
     {
         if self.is_negative() {
             return Err(NumFault::Range);
@@ -113,7 +117,8 @@ impl Real {
 
     /// The greatest whole number of units that is at most `self`.
     pub fn floor(self) -> Real
-        ensures { result ≡ floor_of self }
+        ensures value { result ≡ floor_of self }
+        ensures greatest { IsFloor self result }
     {
         Real {
             millionths: self.millionths - self.millionths.rem_euclid(UNIT),

@@ -1,6 +1,6 @@
 //! Vectors of three numbers.
-ghost use Rattle.std.specs.Prelude.{◌≡◌};
-ghost use Rattle.sop_fixed.specs.Roots.{length_of};
+ghost use Rattle.std.specs.Prelude.{◌≡◌, ◌+◌, IfOk};
+ghost use Rattle.sop_fixed.specs.Roots.{IsRootOf, length_of, square};
 
 use crate::fault::NumFault;
 use crate::real::Real;
@@ -17,7 +17,8 @@ pub struct Vec3 {
 impl Vec3 {
     /// The length, cut to millionths; `Range` where it is no Real.
     pub fn length(self) -> Result<Real, NumFault>
-        ensures { result ≡ length_of self.x self.y self.z }
+        ensures value { result ≡ length_of self.x self.y self.z }
+        ensures greatest { IfOk result (λ r. IsRootOf (square self.x + square self.y + square self.z) r) }
     {
         let squares = self.x.square() + self.y.square() + self.z.square();
         Real::of_parts(false, root(squares))

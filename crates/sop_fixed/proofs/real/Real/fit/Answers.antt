@@ -1,4 +1,4 @@
-use Rattle.std.proofs.Common.{◌∙◌, ◌≡◌, ◌-ℤ◌, ◌*◌, sym, ap, unsigned_abs, arith}
+use Rattle.std.proofs.Common.{◌∙◌, ◌≡◌, ◌-ℤ◌, ◌*◌, ap, unsigned_abs, arith}
 use Rattle.sop_fixed.specs.Numbers.{nearest}
 use Rattle.sop_fixed.specs.Arithmetic.{put_between}
 use Rattle.sop_fixed.proofs.Fitting.{fit_is, fit_within}
