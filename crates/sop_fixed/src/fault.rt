@@ -1,0 +1,19 @@
+//! Why an operation or a text gives no number.
+
+/// Why an operation on numbers has no result.
+#[derive(Clone, Copy, Debug, PartialEq, Eq)]
+pub enum NumFault {
+    /// The result lies outside the type's range.
+    Range,
+    /// The divisor is zero.
+    DivZero,
+}
+
+/// Why a text is no number.
+#[derive(Clone, Copy, Debug, PartialEq, Eq)]
+pub enum NumeralFault {
+    /// The text hasn't the form of a numeral.
+    NotNumeral,
+    /// The text is a numeral whose rounded number is no [`Real`](crate::real::Real).
+    OutOfRange,
+}
