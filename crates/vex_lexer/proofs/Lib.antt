@@ -6,3 +6,4 @@ pub mod Numbers
 pub mod Rows
 pub mod Ascii
 pub mod Scanned
+mod Examples

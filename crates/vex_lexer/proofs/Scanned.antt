@@ -125,7 +125,7 @@ no_between rest len (inr comment) h = elim h.1 [
   | inr none ↦ not_both _ (comment_begins rest len comment.0 comment.1) none.0
 ]
 
-no_piece_there : (text : List ℕ) (place : ℕ) (piece : Piece) → IsOpening (drop place text) Nothing → IsPieceAt text place piece → ⊥
+pub no_piece_there : (text : List ℕ) (place : ℕ) (piece : Piece) → IsOpening (drop place text) Nothing → IsPieceAt text place piece → ⊥
 no_piece_there text place (Between len) h here = no_between (drop place text) len here h
 no_piece_there text place (Word token) h here = elim h.1 [
   | inl begun ↦ not_both _ begun.0 here.no_comment
