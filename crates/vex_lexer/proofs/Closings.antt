@@ -2,7 +2,7 @@
 use Rattle.std.proofs.Common.{◌≡◌, ℕ, ◌+◌, ◌≤◌, ◌<◌, List, [], ◌∷◌, length, drop, refl, ap, ◌∙◌, arith, Bool, true, false, not, ◌&&◌, ◌==◌, if◌then◌else◌, get_or}
 use Rattle.std.proofs.lemmas.List.{drop_more, drop_all}
 use Rattle.vex_lexer.specs.Longest.{IsLongest, onto}
-use Rattle.vex_lexer.specs.Words.{is_closed_by, is_escaped, is_line_end, is_string, is_quote}
+use Rattle.vex_lexer.specs.Words.{is_closed_by, is_escaped, is_line_end}
 use Rattle.vex_lexer.specs.Gaps.{ends_comment}
 use Rattle.vex_lexer.proofs.Longest.{none_fits}
 use Rattle.vex_lexer.proofs.Steps.{onto_more, onto_one, step_longest, stop_longest, last_longest}
@@ -104,13 +104,3 @@ closing_here quote text i inside q =
     ap (λ t. onto i (closing quote false t)) (drop_more text i 0 inside)
     ∙ ap (onto i) (next_plain quote (get_or text i 0) (drop (i + 1) text) true (is_line_end (get_or text i 0)) q refl)
     ∙ onto_one i
-
--- a string is its quote and what closes it
-pub longest_string : (quote : ℕ) (text : List ℕ) (len : ℕ) → is_quote quote ≡ true → IsLongest (is_closed_by quote false) text len → IsLongest is_string (quote ∷ text) (onto 1 len)
-longest_string quote text len q h = step_longest is_string (is_closed_by quote false) quote text len refl (λ word. ap (λ x. x && is_closed_by quote false word) q) h
-
-pub no_string : (b : ℕ) (text : List ℕ) → is_quote b ≡ false → IsLongest is_string (b ∷ text) 0
-no_string b text q = stop_longest is_string b text (λ word. ap (λ x. x && is_closed_by b false word) q)
-
-pub empty_string : IsLongest is_string [] 0
-empty_string = none_fits _ [] (λ more some inside fit. omega arith)

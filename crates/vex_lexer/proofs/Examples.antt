@@ -1,12 +1,12 @@
 -- Worked examples: what the definitions say of texts, by computation.
-use Rattle.std.proofs.Common.{◌≡◌, ℕ, zero, suc, ◌+◌, ◌-◌, ◌≤◌, ◌<◌, List, [], ◌∷◌, length, take, drop, refl, ap, sym, subst, ◌∙◌, arith, Bool, true, false, if◌then◌else◌, inl, inr, codes, lit<}
+use Rattle.std.proofs.Common.{◌≡◌, ℕ, zero, suc, ◌-◌, ◌≤◌, ◌<◌, List, [], ◌∷◌, length, take, drop, refl, subst, arith, Bool, true, false, if◌then◌else◌, inl, inr, codes, lit<}
 use Rattle.std.proofs.lemmas.Bool.{cases_lt}
 use Rattle.std.specs.List.{slice_range}
 use Rattle.vex_lexer.specs.declared.token.Token.{Token}
 use Rattle.vex_lexer.specs.Longest.{IsLongest}
 use Rattle.vex_lexer.specs.Words.{is_token}
 use Rattle.vex_lexer.specs.Gaps.{is_comment, begins_comment}
-use Rattle.vex_lexer.specs.Spelling.{Piece, Between, Word, IsTokenAt, Spells, LacksToken, line_of}
+use Rattle.vex_lexer.specs.Spelling.{Between, Word, IsTokenAt, Spells, LacksToken, line_of}
 use Rattle.vex_lexer.proofs.Longest.{longest_of, not_both}
 use Rattle.vex_lexer.proofs.Scanned.{no_piece_there}
 
@@ -128,15 +128,31 @@ unfolding greatest
 a_snippet =
     let text = codes "@P.y = 1.5;" in record {
       pieces = Word (cut text 0 2) ∷ Word (cut text 2 3) ∷ Word (cut text 3 4) ∷ Between 1 ∷ Word (cut text 5 6) ∷ Between 1 ∷ Word (cut text 7 10) ∷ Word (cut text 10 11) ∷ [];
-      row = (cut_there text 0 2 (lit< tt) refl (tried is_token text),
-        (cut_there text 2 3 (lit< tt) refl (tried is_token (drop 2 text)),
-        (cut_there text 3 4 (lit< tt) refl (tried is_token (drop 3 text)),
-        (inl (refl, refl),
-        (cut_there text 5 6 (lit< tt) refl (tried is_token (drop 5 text)),
-        (inl (refl, refl),
-        (cut_there text 7 10 (lit< tt) refl (tried is_token (drop 7 text)),
-        (cut_there text 10 11 (lit< tt) refl (tried is_token (drop 10 text)),
-        refl))))))));
+      row = (
+        cut_there text 0 2 (lit< tt) refl (tried is_token text),
+        (
+          cut_there text 2 3 (lit< tt) refl (tried is_token (drop 2 text)),
+          (
+            cut_there text 3 4 (lit< tt) refl (tried is_token (drop 3 text)),
+            (
+              inl (refl, refl),
+              (
+                cut_there text 5 6 (lit< tt) refl (tried is_token (drop 5 text)),
+                (
+                  inl (refl, refl),
+                  (
+                    cut_there text 7 10 (lit< tt) refl (tried is_token (drop 7 text)),
+                    (
+                      cut_there text 10 11 (lit< tt) refl (tried is_token (drop 10 text)),
+                      refl,
+                    ),
+                  ),
+                ),
+              ),
+            ),
+          ),
+        ),
+      );
       same = refl;
     }
 

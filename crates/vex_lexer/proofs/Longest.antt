@@ -165,9 +165,6 @@ or_last : (b : Bool) → (b || false) ≡ b
 or_last true = refl
 or_last false = refl
 
-pub none_of_table : {E : Type 0} (test : E → List ℕ → Bool) (text : List ℕ) → IsLongest (λ word. list_any (λ entry. test entry word) []) text 0
-none_of_table test text = none_fits _ text (λ more some inside fit. not_both false fit refl)
-
 pub one_more_entry : {E : Type 0} (test : E → List ℕ → Bool) (entries : List E) (i : ℕ) (d : E) (text : List ℕ) (a b : ℕ) → i < length entries
     → IsLongest (λ word. list_any (λ entry. test entry word) (take i entries)) text a
     → IsLongest (test (get_or entries i d)) text b

@@ -8,7 +8,7 @@ use Rattle.std.specs.List.{list_all, prefix_len, starts_with}
 use Rattle.vex_lexer.specs.Longest.{IsLongest}
 use Rattle.vex_lexer.specs.Words.{begins, is_line_end, is_name, is_name_start, is_name_byte}
 use Rattle.vex_lexer.specs.Gaps.{is_line_comment}
-use Rattle.vex_lexer.proofs.Longest.{longest_of, none_fits, not_both, starts_longer}
+use Rattle.vex_lexer.proofs.Longest.{longest_of, not_both, starts_longer}
 
 prefix_len-yes : (passes : ℕ → Bool) (b : ℕ) (text : List ℕ) → passes b ≡ true → prefix_len passes (b ∷ text) ≡ suc (prefix_len passes text)
 prefix_len-yes passes b text fit = ap (λ x. cond x (1 + prefix_len passes text) 0) fit ∙ omega arith
@@ -46,9 +46,6 @@ longest_name text first =
     longest_of is_name text (prefix_len is_name_byte text) (prefix_len-le-length is_name_byte text)
     (λ some. and_from _ _ (take-begins is_name_start text (prefix_len is_name_byte text) some first) (run_passes is_name_byte text))
     (λ more over inside fit. let most = run_within is_name_byte text more inside (and_parts _ _ fit).1 in omega arith)
-
-pub no_name : (text : List ℕ) → begins is_name_start text ≡ false → IsLongest is_name text 0
-no_name text first = none_fits is_name text (λ more some inside fit. not_both _ (begins-take is_name_start text more (and_parts _ _ fit).0) first)
 
 past_slashes : (text : List ℕ) → 2 ≤ prefix_len (λ b. not (is_line_end b)) (47 ∷ 47 ∷ text)
 past_slashes text = omega arith

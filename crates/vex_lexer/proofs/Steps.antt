@@ -8,10 +8,6 @@ pub onto_more : (by len : ℕ) → onto by (onto 1 len) ≡ onto (by + 1) len
 onto_more by zero = refl
 onto_more by (suc len) = omega arith
 
-pub onto_none : (len : ℕ) → onto 0 len ≡ len
-onto_none zero = refl
-onto_none (suc len) = omega arith
-
 pub onto_one : (by : ℕ) → onto by 1 ≡ by + 1
 onto_one by = omega arith
 
