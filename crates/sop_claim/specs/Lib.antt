@@ -1,0 +1,5 @@
+pub mod Claims
+pub mod Views
+pub mod BoardRule
+pub mod Passes
+pub mod Ends
