@@ -11,6 +11,7 @@ const OBJ: &[u8] = b"v 0 0 0\nv 1 0.50 0\nf 1 2 1\n";
 const MERGED: &[u8] = b"v 0 0 0\nv 1 0.5 0\nv 0 0 0\nv 1 0.5 0\nf 1 2 1\nf 3 4 3\n";
 
 /// What a run gave.
+#[derive(Drop)]
 struct Ran {
     status: u8,
     out: Vec<u8>,
