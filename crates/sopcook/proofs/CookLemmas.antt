@@ -181,8 +181,8 @@ kept_set cook nodes kept now x v h uses geos told = record {
   uses = uses ∙ h.uses;
   places = ap (λ (gs : List (Option Geo)). length gs) geos ∙ length-set kept.geos.items x v ∙ h.places;
   geos = λ y g there.
-    elim (geo_there kept.geos.items x y v g (ap (λ gs. slice_get gs y) (sym geos) ∙ there))
-    [ inl p ↦ subst (λ n. (cook n ≡ Ok g) × IsReady g) (sym p.0) (told g p.1) | inr p ↦ h.geos y g p ];
+      elim (geo_there kept.geos.items x y v g (ap (λ gs. slice_get gs y) (sym geos) ∙ there))
+      [ inl p ↦ subst (λ n. (cook n ≡ Ok g) × IsReady g) (sym p.0) (told g p.1) | inr p ↦ h.geos y g p ];
 }
 
 -- what is kept where a geometry was taken

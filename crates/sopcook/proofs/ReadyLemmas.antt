@@ -149,9 +149,10 @@ shift_step before items corners i d lt done left =
     let is : y ≡ shifted_corner before (get_or corners i d) = ap (λ n. corner_made n (get_or items i d)) turned ∙ ap (λ c. corner_made (before + c.point) c) same in
     let grown : map (shifted_corner before) (take (i + 1) corners) ≡ map (shifted_corner before) (take i corners) ++ shifted_corner before (get_or corners i d) ∷ [] =
     ap (map (shifted_corner before)) (take_more corners i d there) ∙ map-append (shifted_corner before) (take i corners) (get_or corners i d ∷ []) in
-    let rest : drop (i + 1) items ≡ drop (i + 1) corners = tails _ _ _ _ (sym (drop_more items i d lt) ∙ left ∙ drop_more corners i d there) in
-    (take_more_set items i y lt ∙ ap (λ l. l ++ y ∷ []) done ∙ ap (λ c. map (shifted_corner before) (take i corners) ++ c ∷ []) is ∙ sym grown,
-      drop-set-lt (i + 1) items i y (omega arith) ∙ rest)
+    let rest : drop (i + 1) items ≡ drop (i + 1) corners = tails _ _ _ _ (sym (drop_more items i d lt) ∙ left ∙ drop_more corners i d there) in (
+      take_more_set items i y lt ∙ ap (λ l. l ++ y ∷ []) done ∙ ap (λ c. map (shifted_corner before) (take i corners) ++ c ∷ []) is ∙ sym grown,
+      drop-set-lt (i + 1) items i y (omega arith) ∙ rest,
+    )
 
 -- the point fits, which is put behind others
 pub shift_fits : (before : ℕ) (items corners : List Corner) (i : ℕ) (d : Corner) → i < length items → drop i items ≡ drop i corners → All (λ c. before + c.point < 2 ^ 32) corners

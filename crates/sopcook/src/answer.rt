@@ -58,7 +58,11 @@ fn no_node(alloc: Global) -> Result<Answer, AllocError>
 }
 
 /// The script's bytes, or nothing where it is missing or too long.
-fn load_script<F: Files>(files: &mut F, alloc: Global, name: &str) -> Result<Option<Vec<u8>>, RunEnd>
+fn load_script<F: Files>(
+    files: &mut F,
+    alloc: Global,
+    name: &str,
+) -> Result<Option<Vec<u8>>, RunEnd>
     ensures told { F.told files.new ≡ F.told files.old }
     ensures faults { Counts (F.faults files.old) (F.faults files.new) (result ≡ Err RunEnd.Read) }
     ensures ok { IfOk result (λ loaded. IfSome (F.told files.old) (λ names. option_map (λ v. v.items) loaded ≡ result_ok (load_of names name.now script_limit))) }
@@ -85,7 +89,12 @@ fn written(alloc: Global, geo: &Geo) -> Result<Answer, AllocError>
 }
 
 /// The answer of the node x.
-fn answer_node<F: Files>(alloc: Global, nodes: &[Node], x: usize, files: &mut F) -> Result<Answer, RunEnd>
+fn answer_node<F: Files>(
+    alloc: Global,
+    nodes: &[Node],
+    x: usize,
+    files: &mut F,
+) -> Result<Answer, RunEnd>
     requires node { x < length nodes.now }
     requires ordered { IsOrdered nodes.now }
     ensures told { F.told files.new ≡ F.told files.old }
@@ -102,7 +111,12 @@ fn answer_node<F: Files>(alloc: Global, nodes: &[Node], x: usize, files: &mut F)
 }
 
 /// The answer of a script and a node's name.
-fn answer_script<F: Files>(alloc: Global, script: &[u8], node: &str, files: &mut F) -> Result<Answer, RunEnd>
+fn answer_script<F: Files>(
+    alloc: Global,
+    script: &[u8],
+    node: &str,
+    files: &mut F,
+) -> Result<Answer, RunEnd>
     ensures told { F.told files.new ≡ F.told files.old }
     ensures faults { Counts (F.faults files.old) (F.faults files.new) (result ≡ Err RunEnd.Read) }
     ensures ok { IfOk result (λ answer. IfSome (F.told files.old) (λ names. answer ≡ network_answer names (network_of script.now) node.now)) }
@@ -120,7 +134,11 @@ fn answer_script<F: Files>(alloc: Global, script: &[u8], node: &str, files: &mut
 }
 
 /// The answer to the words.
-pub fn answer_words<F: Files>(alloc: Global, words: &[String], files: &mut F) -> Result<Answer, RunEnd>
+pub fn answer_words<F: Files>(
+    alloc: Global,
+    words: &[String],
+    files: &mut F,
+) -> Result<Answer, RunEnd>
     ensures told { F.told files.new ≡ F.told files.old }
     ensures faults { Counts (F.faults files.old) (F.faults files.new) (result ≡ Err RunEnd.Read) }
     ensures ok { IfOk result (λ answer. IfSome (F.told files.old) (λ names. answer ≡ answer_of (map string_bytes words.now) names)) }

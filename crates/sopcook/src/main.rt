@@ -48,3 +48,6 @@ fn main(rt: HostRuntime) -> ExitCode {
     let mut out = StdSink::new(rt.stdout());
     ExitCode::from(run(rt.alloc(), &words, &mut files, &mut out, &mut err))
 }
+
+#[cfg(test)]
+mod tests;

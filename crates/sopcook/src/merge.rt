@@ -11,7 +11,9 @@ use std::alloc::AllocError;
 
 /// The greatest numbers of points, primitives and vertices.
 const MOST_POINTS: u32 = 1_000_000;
+
 const MOST_PRIMS: u32 = 1_000_000;
+
 const MOST_VERTICES: u32 = 4_000_000;
 
 /// The vertices, with each point behind so many others.

@@ -47,7 +47,13 @@ fn deliver_read_fault<E: Sink>(err: &mut E) -> u8
 /// Cooks the node that the second word names, of the script that the first names, and writes its geometry as OBJ on `out`. The status is
 /// 0 where all was written; 3 where a line on `err` says what is refused; 5 where a load failed, counted; 6 where a write failed, counted;
 /// and 7 for want of memory.
-pub fn run<F: Files, O: Sink, E: Sink>(alloc: Global, words: &[String], files: &mut F, out: &mut O, err: &mut E) -> u8
+pub fn run<F: Files, O: Sink, E: Sink>(
+    alloc: Global,
+    words: &[String],
+    files: &mut F,
+    out: &mut O,
+    err: &mut E,
+) -> u8
     ensures statuses { IsStatus result }
 
     // Where the files tell their bytes, a status below 5 is that of the answer, and exactly the answer's bytes were written.

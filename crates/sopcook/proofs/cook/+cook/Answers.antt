@@ -8,9 +8,16 @@ use Rattle.sopcook.proofs.cook.+cook.Goals as goal
 use Rattle.sopcook.proofs.cook.+cook.Goals.{merge_wired-in-Some+in-Ok-give+in-Ok-append, merge_wired-in_default}
 
 pub give-make_and_keep-requires : goal.give-make_and_keep-requires
-give-make_and_keep-requires t c =
-    (omega arith, (c.requires.node, (c.requires.ordered,
-      kept_taken (cook_of (kept_files c.args.loaded.now) c.args.nodes.now) (length c.args.nodes.now) c.args.kept.now c.take.new.self c.args.x c.requires.kept c.take.ensures.uses c.take.ensures.geos)))
+give-make_and_keep-requires t c = (
+  omega arith,
+  (
+    c.requires.node,
+    (
+      c.requires.ordered,
+      kept_taken (cook_of (kept_files c.args.loaded.now) c.args.nodes.now) (length c.args.nodes.now) c.args.kept.now c.take.new.self c.args.x c.requires.kept c.take.ensures.uses c.take.ensures.geos,
+    ),
+  ),
+)
 
 pub give-returns-in-Ok-clause-kept : goal.give-returns-in-Ok-clause-kept
 give-returns-in-Ok-clause-kept t c =
@@ -68,16 +75,18 @@ merge_wired-returns-in-Err-append-clause-tells t c =
 pub merge_wired-loop-wire-preserved : goal.merge_wired-loop-wire-preserved
 merge_wired-loop-wire-preserved t c =
     elim c.match-wire.branch [
-      merge_wired-in-Some+in-Ok-give+in-Ok-append w ↦
-      (subst (IsKept (cook_of (kept_files c.args.loaded.now) c.args.nodes.now) (length c.args.nodes.now)) (sym w.kept-is) w.give.ensures.kept,
+      | merge_wired-in-Some+in-Ok-give+in-Ok-append w ↦ (
+        subst (IsKept (cook_of (kept_files c.args.loaded.now) c.args.nodes.now) (length c.args.nodes.now)) (sym w.kept-is) w.give.ensures.kept,
         gathered_more (cook_of (kept_files c.args.loaded.now) c.args.nodes.now) c.args.wires.now c.loop-wire.wire-index None w.in-Some.source c.loop-wire.into c.match-wire.into w.in-Ok-give.geo
-        c.loop-wire-test.true w.in-Some.is w.in-Ok-give.ensures.tells w.in-Ok-give.ensures.ready (w.into-is ∙ w.in-Ok-append.ensures.ok) c.loop-wire.invariant.1,
-        subst IsReady (sym w.into-is) w.in-Ok-append.ensures.ready)
-      | merge_wired-in_default w ↦
-      (subst (IsKept (cook_of (kept_files c.args.loaded.now) c.args.nodes.now) (length c.args.nodes.now)) (sym w.kept-is) c.loop-wire.invariant.0,
+            c.loop-wire-test.true w.in-Some.is w.in-Ok-give.ensures.tells w.in-Ok-give.ensures.ready (w.into-is ∙ w.in-Ok-append.ensures.ok) c.loop-wire.invariant.1,
+        subst IsReady (sym w.into-is) w.in-Ok-append.ensures.ready,
+      )
+      | merge_wired-in_default w ↦ (
+        subst (IsKept (cook_of (kept_files c.args.loaded.now) c.args.nodes.now) (length c.args.nodes.now)) (sym w.kept-is) c.loop-wire.invariant.0,
         subst (Gathered (cook_of (kept_files c.args.loaded.now) c.args.nodes.now) (take (c.loop-wire.wire-index + 1) c.args.wires.now)) (sym w.into-is)
-        (gathered_past (cook_of (kept_files c.args.loaded.now) c.args.nodes.now) c.args.wires.now c.loop-wire.wire-index None c.loop-wire.into c.loop-wire-test.true w.in_default.is c.loop-wire.invariant.1),
-        subst IsReady (sym w.into-is) c.loop-wire.invariant.2)
+            (gathered_past (cook_of (kept_files c.args.loaded.now) c.args.nodes.now) c.args.wires.now c.loop-wire.wire-index None c.loop-wire.into c.loop-wire-test.true w.in_default.is c.loop-wire.invariant.1),
+        subst IsReady (sym w.into-is) c.loop-wire.invariant.2,
+      )
     ]
 
 pub merge_wired-returns-clause-tells : goal.merge_wired-returns-clause-tells
