@@ -7,7 +7,8 @@ use Rattle.sop_model.specs.declared.geo.Row.{Row}
 use Rattle.sop_model.specs.declared.geo.Corner.{Corner}
 use Rattle.sop_model.specs.declared.geo.Primitive.{Primitive}
 use Rattle.sop_model.specs.Geometry.{empty_row, empty_geo}
-use Rattle.geo_text.specs.ObjReading.{obj_geo, words_of, point_row, face_of, Number, Index}
+use Rattle.sop_model.specs.Plain.{point_row}
+use Rattle.geo_text.specs.ObjReading.{obj_geo, words_of, face_of, Number, Index}
 use Rattle.geo_text.specs.ObjForm.{has_first_form}
 use Rattle.geo_text.specs.ObjWriting.{obj_text}
 

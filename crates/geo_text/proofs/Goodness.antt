@@ -20,7 +20,8 @@ use Rattle.geo_text.specs.ObjReading.{geo_of, lines_of, worded_lines, positions_
 use Rattle.geo_text.specs.ObjForm.{has_first_form, has_line_form, ends_with_line_feed}
 use Rattle.geo_text.specs.ObjFirst.{are_corners_within, are_within, is_small, first_sheet}
 use Rattle.geo_text.proofs.Sheets.{text_without, text_within, text_means, text_too_large, text_plain}
-use Rattle.geo_text.proofs.Plain.{IsPointRow, IsPlainCorner, IsFace, IsPlainSheet}
+use Rattle.sop_model.specs.Plain.{IsPointRow}
+use Rattle.geo_text.proofs.Plain.{IsPlainCorner, IsFace, IsPlainSheet}
 
 pub only_position_of : (s : Sheet) → HasOnlyPosition (geo_of s)
 only_position_of s = record { detail = refl; prim = refl; point = refl; vertex = refl }

@@ -1,8 +1,6 @@
 -- Points and primitives that have the position and nothing else.
 use Rattle.std.proofs.Common.{◌≡◌, ◌<◌, length}
 use Rattle.std.specs.Prelude.{All}
-use Rattle.sop_fixed.specs.declared.vec3.Vec3.{Vec3}
-use Rattle.sop_model.specs.declared.geo.Row.{Row}
 use Rattle.sop_model.specs.declared.geo.Corner.{Corner}
 use Rattle.sop_model.specs.declared.geo.Primitive.{Primitive}
 use Rattle.sop_model.specs.Geometry.{empty_row}
@@ -10,10 +8,7 @@ use Rattle.sop_model.specs.Vertices.{size_of}
 use Rattle.geo_text.specs.declared.part.Part.{Part}
 use Rattle.geo_text.specs.declared.part.Part.TheVariants.{Nothing, Position, Face}
 use Rattle.geo_text.specs.declared.sheet.Sheet.{Sheet}
-use Rattle.geo_text.specs.ObjReading.{point_row}
-
-abbrev pub IsPointRow : Row → Type 0
-IsPointRow row = (v : Vec3) × (row ≡ point_row v)
+use Rattle.sop_model.specs.Plain.{IsPointRow}
 
 abbrev pub IsPlainCorner : Corner → Type 0
 IsPlainCorner c = c.row ≡ empty_row

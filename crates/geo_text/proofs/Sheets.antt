@@ -9,10 +9,11 @@ use Rattle.sop_model.specs.Vertices.{corners_of}
 use Rattle.geo_text.specs.declared.part.Part.{Part}
 use Rattle.geo_text.specs.declared.part.Part.TheVariants.{Nothing, Position, Face}
 use Rattle.geo_text.specs.declared.sheet.Sheet.{Sheet}
-use Rattle.geo_text.specs.ObjReading.{lines_of, words_of, worded_lines, positions_in, references_in, faces_in, is_filled, is_position_line, references_of, Limit, part_of, point_row, face_of, with_part, sheet_from, passes_limits, geo_of, obj_geo}
+use Rattle.geo_text.specs.ObjReading.{lines_of, words_of, worded_lines, positions_in, references_in, faces_in, is_filled, is_position_line, references_of, Limit, part_of, face_of, with_part, sheet_from, passes_limits, geo_of, obj_geo}
 use Rattle.geo_text.specs.ObjForm.{pieces_of, is_word, have_form, has_line_form, ends_with_line_feed, has_first_form}
 use Rattle.geo_text.specs.ObjFirst.{first_words, first_part, first_joined, first_sheet, are_within, is_small, vertices_of}
-use Rattle.geo_text.proofs.Plain.{IsPointRow, IsFace, IsPlainPart, IsPlainSheet}
+use Rattle.sop_model.specs.Plain.{IsPointRow, point_row}
+use Rattle.geo_text.proofs.Plain.{IsFace, IsPlainPart, IsPlainSheet}
 use Rattle.geo_text.proofs.Words.{words_are_pieces}
 use Rattle.geo_text.proofs.Lines.{words_say, words_complete, part_within, points_of, prims_of}
 

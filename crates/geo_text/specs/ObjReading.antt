@@ -12,8 +12,8 @@ use Rattle.sop_model.specs.declared.geo.Geo.{Geo}
 use Rattle.sop_model.specs.declared.geo.Row.{Row}
 use Rattle.sop_model.specs.declared.geo.Corner.{Corner}
 use Rattle.sop_model.specs.declared.geo.Primitive.{Primitive}
-use Rattle.sop_model.specs.declared.value.Value.TheVariants as value
 use Rattle.sop_model.specs.Geometry.{empty_row, empty_geo}
+use Rattle.sop_model.specs.Plain.{point_row}
 use Rattle.geo_text.specs.declared.sheet.Sheet.{Sheet}
 use Rattle.geo_text.specs.declared.part.Part.{Part}
 use Rattle.geo_text.specs.declared.part.Part.TheVariants.{Nothing, Position, Face}
@@ -121,9 +121,6 @@ part_of line total so_far (key ∷ words) =
     if bytes_eq key (codes "v") then position_part line words
     else if bytes_eq key (codes "f") then face_part line total so_far words
     else Ok Nothing
-
-abbrev pub point_row : Vec3 → Row
-point_row at = record { values = value.Vector at ∷ []; flags = [] }
 
 abbrev pub face_of : List Corner → Primitive
 face_of corners = record { closed = true; row = empty_row; corners = corners }

@@ -3,7 +3,8 @@ ghost use Rattle.std.specs.Prelude.{◌≡◌, [], IfOk, OnOk, Option, length, f
 ghost use Rattle.std.specs.List.{list_all};
 ghost use Rattle.sop_model.specs.Geometry.{empty_row};
 ghost use Rattle.sop_model.specs.Vertices.{corners_of};
-ghost use Rattle.geo_text.specs.ObjReading.{point_row, face_of, geo_of, with_part};
+ghost use Rattle.sop_model.specs.Plain.{point_row};
+ghost use Rattle.geo_text.specs.ObjReading.{face_of, geo_of, with_part};
 ghost use Rattle.geo_text.specs.ObjFirst.{first_joined, onto, is_small, are_within, are_corners_within};
 
 use crate::part::Part;

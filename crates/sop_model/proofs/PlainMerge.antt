@@ -38,10 +38,11 @@ geo_made detail prim point vertex points prims detail_row = record { detail = de
 geo_same : {d d' p p' o o' v v' : HeadSet} {points points' : List Row} {prims prims' : List Primitive} {row row' : Row} → d ≡ d' → p ≡ p' → o ≡ o' → v ≡ v' → points ≡ points' → prims ≡ prims' → row ≡ row' → geo_made d p o v points prims row ≡ geo_made d' p' o' v' points' prims' row'
 geo_same d_is p_is o_is v_is points_is prims_is row_is = cc
 
-All-left : {X : Type 0} (P : X → Type 0) (xs ys : List X) → All P (xs ++ ys) → All P xs
+-- what holds of each item of two lists in a row holds of each item of both
+pub All-left : {X : Type 0} (P : X → Type 0) (xs ys : List X) → All P (xs ++ ys) → All P xs
 All-left P xs ys all k d lt = subst P (get_or_append_left xs ys d k lt) (all k d (omega (arith, length-append xs ys)))
 
-All-right : {X : Type 0} (P : X → Type 0) (xs ys : List X) → All P (xs ++ ys) → All P ys
+pub All-right : {X : Type 0} (P : X → Type 0) (xs ys : List X) → All P (xs ++ ys) → All P ys
 All-right P xs ys all k d lt = subst P (get_or-append-add xs ys k d) (all (length xs + k) d (omega (arith, length-append xs ys)))
 
 map_agree : {X Y : Type 0} (f g : X → Y) (xs : List X) → All (λ x. f x ≡ g x) xs → map f xs ≡ map g xs

@@ -14,6 +14,7 @@ use Rattle.sop_model.specs.Geometry.{Fits, fits, class_fits, heads_of, geo_weigh
 use Rattle.sop_model.specs.Merge.{merged}
 use Rattle.sop_model.specs.Plain.{IsPlain, plain_append}
 use Rattle.sop_model.proofs.PlainMerge.{merged-push, merged-nil}
+use Rattle.sop_model.proofs.LimitsLemmas.{fits-true}
 use Rattle.sopcook.specs.declared.network.Node.{Node}
 use Rattle.sopcook.specs.declared.network.NodeType.{NodeType}
 use Rattle.sopcook.specs.declared.network.NodeType.TheVariants.{File, Merge}
@@ -76,27 +77,12 @@ gathered_more go wires i d source into now geo lt here gave ready is g =
       plain = All-append IsPlain g.geos (geo ∷ []) g.plain (All-cons IsPlain geo [] plain (All-nil IsPlain));
     }
 
-all_true : (a b c d e f h i : Bool) → a ≡ true → b ≡ true → c ≡ true → d ≡ true → e ≡ true → f ≡ true → h ≡ true → i ≡ true → a && b && c && d && e && f && h && i ≡ true
-all_true a b c d e f h i ha hb hc hd he hf hh hi = rw (ha, hb, hc, hd, he, hf, hh, hi) refl
-
-class_true : (set : HeadSet) → length set.heads ≤ 64 → length set.groups ≤ 256 → class_fits set ≡ true
-class_true set few_heads few_groups = rw (le-leb (length set.heads) 64 few_heads, le-leb (length set.groups) 256 few_groups) refl
-
-pub fits_true : (g : Geo) → Fits g → fits g ≡ true
-fits_true g h =
-    let within = h.within in
-    all_true _ _ _ _ _ _ _ _
-    (le-leb (length g.points) 1000000 within.points) (le-leb (length g.prims) 1000000 within.prims) (le-leb (length (corners_of g.prims)) 4000000 within.vertices)
-    (class_true g.detail (within.heads Detail) (within.groups Detail)) (class_true g.prim (within.heads Prim) (within.groups Prim))
-    (class_true g.point (within.heads Point) (within.groups Point)) (class_true g.vertex (within.heads Vertex) (within.groups Vertex))
-    (le-leb (geo_weight g) 40000000 h.weight)
-
 -- all wires were merged
 pub gathered_all : (go : ℕ → Outcome) (x : ℕ) (wires : List (Option ℕ)) (i : ℕ) (into : Geo) → i ≡ length wires → IsReady into → Gathered go (take i wires) into → merge_outcome go x wires ≡ Ok into
 gathered_all go x wires i into all ready g =
     let whole : take i wires ≡ wires = ap (λ n. take n wires) all ∙ take-length wires in
     let so_far : gathered go wires ≡ Ok g.geos = ap (gathered go) (sym whole) ∙ g.so_far in
-    let fitting : fits (merged g.geos) ≡ true = ap fits g.merge ∙ fits_true into ready.fits in
+    let fitting : fits (merged g.geos) ≡ true = ap fits g.merge ∙ fits-true into ready.fits in
     ap (λ r. then_with r (λ gs. at_node x (merge_geo gs))) so_far
     ∙ ap (λ b. at_node x (if b then Ok (merged g.geos) else Err variant.NotYet)) fitting
     ∙ ap Ok g.merge

@@ -14,7 +14,7 @@ use Rattle.sop_model.specs.Vertices.{size_of, corners_of}
 use Rattle.sop_model.specs.Geometry.{heads_of, empty_geo, geo_weight, IsWithin, Fits, IsGood, IsSound, IsReadable, HasOnlyPosition}
 use Rattle.sop_model.specs.Plain.{IsPlain, plain_append, shifted_prim, shifted_corner}
 use Rattle.sop_model.proofs.PlainLemmas.{IsPlain-from_sound}
-use Rattle.sop_model.proofs.PlainMerge.{IsPlain-append, IsPlain-empty_geo, IsSound-append, IsSound-empty_geo, corners_of-append}
+use Rattle.sop_model.proofs.PlainMerge.{IsPlain-append, IsPlain-empty_geo, IsSound-append, IsSound-empty_geo, corners_of-append, All-left, All-right}
 use Rattle.sopcook.specs.Keeping.{IsReady, is_over_limits, are_over}
 use Rattle.sopcook.proofs.MergeLemmas.{geo_weight-plain}
 
@@ -96,12 +96,6 @@ IsReady-empty_geo =
       fits = fits_plain empty_geo IsPlain-empty_geo within;
       position = IsPlain-empty_geo.only;
     }
-
-All-left : {X : Type 0} (P : X → Type 0) (xs ys : List X) → All P (xs ++ ys) → All P xs
-All-left P xs ys all k d lt = subst P (get_or_append_left xs ys d k lt) (all k d (omega (arith, length-append xs ys)))
-
-All-right : {X : Type 0} (P : X → Type 0) (xs ys : List X) → All P (xs ++ ys) → All P ys
-All-right P xs ys all k d lt = subst P (get_or-append-add xs ys k d) (all (length xs + k) d (omega (arith, length-append xs ys)))
 
 -- what holds of all vertices holds of the vertices of each primitive
 pub All-corners : (P : Corner → Type 0) (prims : List Primitive) → All P (corners_of prims) → All (λ p. All P p.corners) prims
