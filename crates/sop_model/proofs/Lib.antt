@@ -3,3 +3,4 @@ pub mod VerticesLemmas
 pub mod PlainLemmas
 pub mod PlainMerge
 pub mod LimitsLemmas
+pub mod SampleLemmas

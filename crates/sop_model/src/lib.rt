@@ -18,3 +18,6 @@ pub use geo::{
 pub use primitives::PrimList;
 pub use value::{IntList, Kind, RealList, Value, ValueRef, VectorList};
 pub use view::{GeoView, Inputs};
+
+#[cfg(test)]
+mod tests;
