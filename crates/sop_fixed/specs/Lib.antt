@@ -1,2 +1,4 @@
+pub mod Arithmetic
 pub mod Numbers
 pub mod Numerals
+pub mod Roots

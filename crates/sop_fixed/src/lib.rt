@@ -6,6 +6,7 @@ pub mod fault;
 pub mod int;
 pub mod numeral;
 pub mod real;
+mod sizes;
 pub mod vec3;
 
 pub use fault::{NumFault, NumeralFault};

@@ -1,4 +1,5 @@
 use super::*;
+use std::process::Abort;
 use std::test::Fail;
 
 #[test]
@@ -31,5 +32,39 @@ fn numbers_are_made(rt: HostRuntime) -> Result<(), Fail> {
     assert_eq!(rt; place.y.millionths(), -1);
     assert_eq!(rt; Int::of(-7).expect(&rt, "in range").get(), -7);
     assert!(rt; Int::of(2_147_483_648).is_err());
+    Ok(())
+}
+
+fn real(rt: &impl Abort, millionths: i64) -> Real {
+    Real::of_millionths(millionths).expect(rt, "in range")
+}
+
+#[test]
+fn reals_are_reckoned(rt: HostRuntime) -> Result<(), Fail> {
+    let x = real(&rt, 7_500_000);
+    let y = real(&rt, -2_000_000);
+    assert!(rt; x.add(y) == Ok(real(&rt, 5_500_000)));
+    assert!(rt; x.sub(y) == Ok(real(&rt, 9_500_000)));
+    assert!(rt; x.mul(y) == Ok(real(&rt, -15_000_000)));
+    assert!(rt; x.div(y) == Ok(real(&rt, -3_750_000)));
+    assert!(rt; x.rem(y) == Ok(real(&rt, 1_500_000)));
+    assert!(rt; x.sqrt() == Ok(real(&rt, 2_738_612)));
+    assert_eq!(rt; x.floor().millionths(), 7_000_000);
+    assert_eq!(rt; x.to_int().get(), 7);
+    assert_eq!(rt; real(&rt, 0).fit(y, x, x, y).millionths(), 5_500_000);
+    assert!(rt; Vec3 { x, y, z: y }.length() == Ok(real(&rt, 8_015_609)));
+    Ok(())
+}
+
+#[test]
+fn ints_are_reckoned(rt: HostRuntime) -> Result<(), Fail> {
+    let x = Int::of(-7).expect(&rt, "in range");
+    let y = Int::of(2).expect(&rt, "in range");
+    assert!(rt; x.add(y) == Int::of(-5));
+    assert!(rt; x.sub(y) == Int::of(-9));
+    assert!(rt; x.mul(y) == Int::of(-14));
+    assert!(rt; x.div(y) == Int::of(-3));
+    assert!(rt; x.rem(y) == Int::of(-1));
+    assert!(rt; x.to_real() == Ok(real(&rt, -7_000_000)));
     Ok(())
 }

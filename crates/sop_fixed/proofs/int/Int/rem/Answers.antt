@@ -1,0 +1,7 @@
+use Rattle.std.proofs.Common.{sym, ◌∙◌}
+use Rattle.sop_fixed.specs.Arithmetic.{remainder_of}
+use Rattle.sop_fixed.proofs.Division.{int_small, remainder_of_both}
+use Rattle.sop_fixed.proofs.int.Int.rem.Goals as goal
+
+pub returns-clause-value : goal.returns-clause-value
+returns-clause-value c = sym (remainder_of_both c.self.inside.number c.b.inside.number (int_small _ c.self.invariant) (int_small _ c.b.invariant) c.if-b-eq0.false) ∙ (λ i. remainder_of (c.self.view_is i) (c.b.view_is i))
