@@ -10,18 +10,17 @@ long, and that no cook takes more than 3 GB. The status is 0 where all of that h
 quicker measurement. --write puts the table of the whole one into docs/BENCH.md with the date.
 """
 import argparse
-import datetime
 import filecmp
 import math
 import multiprocessing
 import os
-import platform
 import statistics
 import subprocess
 import sys
 import tempfile
 
-TOP = os.path.dirname(os.path.dirname(os.path.realpath(__file__)))
+import page
+
 MOST = 1_000_000
 MOST_TIMES = 2.3
 MOST_BYTES = 3_000_000_000
@@ -130,38 +129,27 @@ def series(program, name, most, inputs, runs):
         if memory > MOST_BYTES:
             problems.append(f"{name}, {count:,}: {memory / 1e9:.2f} GB")
         cells = [name, f"{count:,}", f"{size / 1e6:.1f} MB", f"{took:.2f} s", f"{times:.2f}" if times else "", f"{memory / 1e6:,.0f} MB"]
-        lines.append("| " + " | ".join(cells) + " |")
+        lines.append(page.line(cells))
         print(lines[-1], flush=True)
         before = took
     return lines, problems
 
 
-def processor():
-    try:
-        with open("/proc/cpuinfo", encoding="utf-8") as file:
-            return next(line.partition(":")[2].strip() for line in file if line.startswith("model name"))
-    except (OSError, StopIteration):
-        return platform.machine()
-
-
 def write(lines, runs):
     """Puts the table into docs/BENCH.md."""
-    today = datetime.date.today().isoformat()
-    os.makedirs(f"{TOP}/docs", exist_ok=True)
-    with open(f"{TOP}/docs/BENCH.md", "w", encoding="utf-8") as file:
-        file.write(
-            "# How cost grows\n\n"
-            "`bench/run.py --write` makes this page. A grid of N points has N quads and is closed: each row and each column is a\n"
-            f"ring. Times are seconds of the processor, the median of {runs} runs, less that of an empty cook; memory is the\n"
-            "greatest that a run held. The bounds that it checks: twice the input takes at most 2.3 times as long, and no cook\n"
-            "takes more than 3 GB. These are measurements. No proof speaks of time or of how much memory a cook takes.\n\n"
-            f"Measured on {today}, {processor()}.\n\n" + "\n".join(lines) + "\n"
-        )
+    page.put(
+        "How cost grows",
+        "`bench/run.py --write` makes this table. A grid of N points has N quads and is closed: each row and each column is a\n"
+        f"ring. Times are seconds of the processor, the median of {runs} runs, less that of an empty cook; memory is the\n"
+        "greatest that a run held. The bounds that it checks: twice the input takes at most 2.3 times as long, and no cook\n"
+        "takes more than 3 GB.",
+        lines,
+    )
 
 
 def main():
     parser = argparse.ArgumentParser()
-    parser.add_argument("--program", default=f"{TOP}/crates/sopcook/out/sopcook")
+    parser.add_argument("--program", default=f"{page.TOP}/crates/sopcook/out/sopcook")
     parser.add_argument("--most", type=int, default=MOST)
     parser.add_argument("--runs", type=int, default=3)
     parser.add_argument("--write", action="store_true")
@@ -169,7 +157,7 @@ def main():
     if args.write and args.most != MOST:
         parser.error("docs/BENCH.md holds the whole measurement: leave out --most")
     program = os.path.abspath(args.program)
-    lines = ["| cook | points of a grid | read | time | times half of it | memory |", "|---|---:|---:|---:|---:|---:|"]
+    lines = page.table(["cook", "points of a grid", "read", "time", "times half of it", "memory"], "<>>>>>")
     print("\n".join(lines))
     alone = series(program, "read and write one", args.most, 1, args.runs)
     both = series(program, "merge two", args.most // 2, 2, args.runs)

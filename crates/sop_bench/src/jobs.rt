@@ -1,0 +1,41 @@
+// Jobs of equal weight for the workers.
+use sop_fan::{Job, Stop, gather};
+use sop_outside::OpenGate;
+use std::alloc::Global;
+use std::thread::Threads;
+
+const JOBS: u32 = 1000;
+
+const ROUNDS: u32 = 300_000;
+
+// Mixes the bits of a ticket's number again and again. Its results are tested for nothing.
+#[derive(Drop)]
+struct Mixing;
+
+impl Job for Mixing {
+    type Out = u64;
+
+    type Fault = u32;
+
+    ghost use Rattle.std.specs.Prelude.{None};
+
+    ghost fault = { λ job k. None };
+
+    ghost admits = { λ job k out. Unit {0} };
+
+    fn run(&self, k: u32) -> Result<u64, Stop<u32>> {
+        let mut bits = u64::from(k) + 1;
+        for _ in 0..ROUNDS {
+            bits ^= bits << 13;
+            bits ^= bits >> 7;
+            bits ^= bits << 17;
+        }
+        Ok(bits)
+    }
+}
+
+/// The sum of all results, the same for each number of workers; none where memory runs out.
+pub fn sum_of_jobs<R: Threads + Sync>(rt: &R, alloc: Global, workers: u32) -> Option<u64> {
+    let outs = gather(rt, alloc, workers.clamp(1, 64), JOBS, &OpenGate, &Mixing).ok()?;
+    Some(outs.iter().fold(0u64, |sum, out| sum.wrapping_add(*out)))
+}

@@ -1,0 +1,43 @@
+// Runs of one operation on numbers.
+use crate::numbers::Numbers;
+use sop_fixed::{NumFault, Real, Vec3};
+
+#[derive(Clone, Copy)]
+pub enum Operation {
+    Mul,
+    Div,
+    Rem,
+    Sqrt,
+    Length,
+}
+
+impl Operation {
+    /// What the operation gives for the next numbers.
+    fn apply(self, numbers: &mut Numbers) -> Result<Real, NumFault> {
+        match self {
+            Operation::Mul => numbers.signed()?.mul(numbers.signed()?),
+            Operation::Div => numbers.signed()?.div(numbers.positive()?),
+            Operation::Rem => numbers.signed()?.rem(numbers.positive()?),
+            Operation::Sqrt => numbers.positive()?.sqrt(),
+            Operation::Length => Vec3 {
+                x: numbers.signed()?,
+                y: numbers.signed()?,
+                z: numbers.signed()?,
+            }
+            .length(),
+        }
+    }
+}
+
+/// A checksum of `size` results, which depends on their order.
+pub fn checksum(operation: Operation, size: u32) -> Result<u64, NumFault> {
+    let mut numbers = Numbers::new();
+    let mut sum = 0u64;
+    for _ in 0..size {
+        let result = operation.apply(&mut numbers)?;
+        sum = sum
+            .wrapping_mul(31)
+            .wrapping_add(result.millionths().cast_unsigned());
+    }
+    Ok(sum)
+}
