@@ -5,9 +5,10 @@
 
 PROGRAM is the built crate sop_bench. Its peer, bench/peer.rs, is built with rustc -O into .build/bench/. Both run each
 row and must print the same checksum. A time is the median of the runs, less that of an empty run: of the processor for
-SIZE operations on numbers, and on the wall for a thousand equal jobs by 1, 2 and 4 workers. Where there are 4 processors,
-4 workers must be at least 3 times as fast as one; rows for more workers than processors are not measured. The status is
-0 where all of that holds. --write puts the table of the whole measurement into docs/BENCH.md with the date.
+SIZE operations on numbers, and on the wall for a thousand equal jobs by 1, 2 and 4 workers. Where there are 4
+processors, 4 workers must be at least 3 times as fast as one, which needs a machine with nothing else to do; rows for
+more workers than processors are not measured. The status is 0 where all of that holds. --write puts the table of the
+whole measurement into docs/BENCH.md with the date.
 """
 import argparse
 import os
@@ -54,8 +55,8 @@ def measure(programs, row, size, clock, runs):
     ran = [[(run(it, row, size), run(it, "none", 0)) for it in programs] for _ in range(runs)]
     answers = []
     for pairs in zip(*ran):
-        took = statistics.median(full[clock] for full, _ in pairs) - statistics.median(empty[clock] for _, empty in pairs)
-        answers.append((took, {full[2] for full, _ in pairs}))
+        took, empty = (statistics.median(it[clock] for it in kind) for kind in zip(*pairs))
+        answers.append((took - empty, {full[2] for full, _ in pairs}))
     return answers
 
 
