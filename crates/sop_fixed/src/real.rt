@@ -1,9 +1,9 @@
 //! Numbers in millionths.
-ghost use Rattle.std.specs.Prelude.{◌≡◌, ◌≤◌, ◌<◌, ◌≤ℤ◌, ◌+ℤ◌, ◌-ℤ◌, ◌*ℤ◌, ◌*◌, pos, unsigned_abs, IfOk, IsOkAnd};
+ghost use Rattle.std.specs.Prelude.{◌≡◌, ◌≤◌, ◌<◌, ◌≤ℤ◌, ◌+ℤ◌, ◌-ℤ◌, ◌*ℤ◌, ◌*◌, ℕ, ℤ, pos, unsigned_abs, IfOk, IsOkAnd};
 ghost use Rattle.std.specs.Int.{int_max, int_min};
-ghost use Rattle.sop_fixed.specs.Arithmetic.{IsFloor, IsNearest, difference_of, fit_of, floor_of, product_of, put_between, quotient_of, remainder_of, sum_of, unit, units_of};
+ghost use Rattle.sop_fixed.specs.Arithmetic.{IsFloor, IsNearest, difference_of, fit_of, floor_of, product_of, put_between, quotient_of, remainder_of, rounded, sum_of, unit, units_of};
 ghost use Rattle.sop_fixed.specs.Roots.{IsRootOf, sqrt_of, square};
-ghost use Rattle.sop_fixed.specs.Numbers.{signed, is_negative, real_of, largest_size};
+ghost use Rattle.sop_fixed.specs.Numbers.{signed, is_negative, nearest, real_of, largest_size};
 
 use crate::fault::NumFault;
 use crate::int::Int;
@@ -219,3 +219,10 @@ impl Real {
         })
     }
 }
+
+/// The law that rounding keeps order: of two numbers by one divisor above zero, the lesser doesn't round to the greater number. The call
+/// does nothing.
+pub fn rounding_keeps_order()
+    ensures sizes { (n m d : ℕ) → 0 < d → n ≤ m → nearest n d ≤ nearest m d }
+    ensures signed { (a b : ℤ) (d : ℕ) → 0 < d → a ≤ℤ b → rounded a (pos d) ≤ℤ rounded b (pos d) }
+{}
