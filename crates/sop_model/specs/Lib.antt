@@ -3,3 +3,4 @@ pub mod Vertices
 pub mod Geometry
 pub mod Merge
 pub mod Plain
+pub mod Faults

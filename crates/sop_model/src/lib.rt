@@ -3,6 +3,7 @@
 
 pub mod class;
 pub mod copies;
+pub mod fault;
 pub mod geo;
 pub mod primitives;
 pub mod rows;
@@ -11,6 +12,7 @@ pub mod view;
 
 pub use class::Class;
 pub use copies::Copied;
+pub use fault::{CookStop, Fault};
 pub use geo::{
     Corner, CornerList, FlagList, Geo, Head, HeadList, HeadSet, Prim, Primitive, Row, RowList,
     ValueList,

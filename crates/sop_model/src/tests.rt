@@ -227,3 +227,11 @@ fn a_geometry_is_copied(rt: HostRuntime) -> Result<(), Fail> {
     assert!(rt; copy.points.len() == 1 && copy.prims.len() == 1);
     Ok(())
 }
+
+#[test]
+fn a_fault_is_printed(rt: HostRuntime) -> Result<(), Fail> {
+    let mut text = Vec::from_slice(rt.alloc(), b"m: ")?;
+    Fault::NoInput(31).print(&mut text)?;
+    assert_eq!(rt; text.as_slice(), b"m: NoInput 31".as_slice());
+    Ok(())
+}
