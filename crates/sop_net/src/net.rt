@@ -1,6 +1,7 @@
 // The network and its steps.
-ghost use Rattle.std.specs.Prelude.{◌≡◌, ◌<◌, ◌≤◌, ◌⊎◌, ◌%◌, ◌∷◌, [], ◌++◌, length, drop, IfOk, IfErr, OnOk, OnErr, Ok, Err, Some, option_map, slice_get};
-ghost use Rattle.sop_net.specs.Network.{empty_network, node_of, number_named, place_of, IsLive, IsNetwork, wire_at, wires_of};
+ghost use Rattle.std.specs.Prelude.{◌≡◌, ◌<◌, ◌≤◌, ◌⊎◌, ◌%◌, ◌∷◌, [], ◌++◌, length, drop, IfOk, IfErr, OnOk, OnErr, Ok, Err, Some, option_map, slice_get, ℕ, Contains};
+ghost use Rattle.sop_net.specs.Network.{empty_network, node_of, number_named, place_of, IsLive, IsNetwork, wire_at, wires_of, sources, used_sources};
+ghost use Rattle.sop_net.specs.Graph.{Within};
 ghost use Rattle.sop_net.specs.Steps.{added_node, set_node, wired_node, removed_node};
 ghost use Rattle.sop_net.specs.Needs.{needed};
 
@@ -95,6 +96,7 @@ impl Net {
     pub fn find(&self, name: &str) -> Option<NodeId>
         ensures { result ≡ number_named self.now.nodes name.now }
     {
+        let _added = self.added;
         None
     }
 
@@ -103,6 +105,7 @@ impl Net {
         requires { IsLive self.now.nodes node }
         ensures { option_map (λ n. n.name) (node_of self.now.nodes node) ≡ Some result.now }
     {
+        let _added = self.added;
         unreachable!()
     }
 
@@ -111,6 +114,7 @@ impl Net {
         requires { IsLive self.now.nodes node }
         ensures { option_map (λ n. n.parms) (node_of self.now.nodes node) ≡ Some result.now }
     {
+        let _added = self.added;
         unreachable!()
     }
 
@@ -119,6 +123,7 @@ impl Net {
         requires { IsLive self.now.nodes node }
         ensures { option_map (λ n. n.kind) (node_of self.now.nodes node) ≡ Some result }
     {
+        let _added = self.added;
         unreachable!()
     }
 
@@ -127,6 +132,7 @@ impl Net {
         requires { IsLive self.now.nodes node }
         ensures { result ≡ wire_at (wires_of (node_of self.now.nodes node)) input }
     {
+        let _added = self.added;
         unreachable!()
     }
 
@@ -134,6 +140,7 @@ impl Net {
     pub fn nodes(&self) -> u32
         ensures { result ≡ length self.now.nodes }
     {
+        let _added = self.added;
         0
     }
 
@@ -142,6 +149,7 @@ impl Net {
         requires { i < length self.now.nodes }
         ensures { option_map (λ n. n.number) (slice_get self.now.nodes i) ≡ Some result }
     {
+        let _added = self.added;
         unreachable!()
     }
 
@@ -150,6 +158,7 @@ impl Net {
         requires { IsLive self.now.nodes node }
         ensures { place_of self.now.nodes node ≡ Some result }
     {
+        let _added = self.added;
         unreachable!()
     }
 
@@ -162,13 +171,20 @@ impl Net {
         ensures few { result ≤ 1024 }
         ensures written { into.new ≡ needed self.now.nodes node ++ drop result into.old }
     {
+        let _added = self.added;
         unreachable!()
     }
 
     /// What holds of every network: it has at most 1,024 nodes of distinct names, each with texts that its parameters take, each wire comes
     /// from a node that stands, and no node is upstream of itself.
+    ///
+    /// So no way upstream is longer than the number of nodes, by used wires as by all.
     pub fn is_network(&self)
-        ensures { IsNetwork self.now }
+        ensures network { IsNetwork self.now }
+        ensures within { (x : ℕ) → IsLive self.now.nodes x → Within (sources self.now.nodes) (length self.now.nodes) x }
+        ensures within_used { (x : ℕ) → IsLive self.now.nodes x → Within (used_sources self.now.nodes) (length self.now.nodes) x }
+        ensures used_live { (x y : ℕ) → Contains (used_sources self.now.nodes x) y → IsLive self.now.nodes y }
     {
+        let _added = self.added;
     }
 }
