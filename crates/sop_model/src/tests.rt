@@ -4,8 +4,8 @@ ghost use Rattle.sop_model.specs.Geometry.{empty_row, no_heads, position_head, I
 ghost use Rattle.sop_model.specs.Vertices.{corners_of};
 
 use crate::{
-    Class, Copied, Corner, CornerList, FlagList, Geo, GeoView, HeadSet, Kind, Prim, PrimList, Row,
-    RowList, Value, ValueList, ValueRef,
+    Class, Copied, Corner, CornerList, Fault, FlagList, Geo, GeoView, HeadSet, Kind, Prim,
+    PrimList, Row, RowList, Value, ValueList, ValueRef,
 };
 use sop_fixed::real::Real;
 use sop_fixed::vec3::Vec3;
