@@ -1,6 +1,6 @@
 // The network and its steps.
 ghost use Rattle.std.specs.Prelude.{◌≡◌, ◌<◌, ◌≤◌, ◌⊎◌, ◌%◌, ◌∷◌, [], ◌++◌, length, drop, IfOk, IfErr, OnOk, OnErr, Ok, Err, Some, option_map, slice_get, ℕ, Contains};
-ghost use Rattle.sop_net.specs.Network.{empty_network, node_of, number_named, place_of, IsLive, IsNetwork, wire_at, wires_of, sources, used_sources};
+ghost use Rattle.sop_net.specs.Network.{empty_network, node_of, number_named, place_of, IsLive, IsNetwork, wire_at, wires_of, used_wires, switch_input, sources, used_sources};
 ghost use Rattle.sop_net.specs.Graph.{Within};
 ghost use Rattle.sop_net.specs.Steps.{added_node, set_node, wired_node, removed_node};
 ghost use Rattle.sop_net.specs.Needs.{needed};
@@ -131,6 +131,26 @@ impl Net {
     pub fn source(&self, node: NodeId, input: u32) -> Option<NodeId>
         requires { IsLive self.now.nodes node }
         ensures { result ≡ wire_at (wires_of (node_of self.now.nodes node)) input }
+    {
+        let _added = self.added;
+        unreachable!()
+    }
+
+    /// The source of a used wire: of a switch, `i` 0 is the wire into the input that it takes; of every other node, `i` is the input number.
+    pub fn used_source(&self, node: NodeId, i: u32) -> Option<NodeId>
+        requires { IsLive self.now.nodes node }
+        ensures { result ≡ wire_at (used_wires (node_of self.now.nodes node)) i }
+    {
+        let _added = self.added;
+        unreachable!()
+    }
+
+    /// The input that a switch takes, 0 to 31.
+    pub fn switch_input(&self, node: NodeId) -> u32
+        requires live { IsLive self.now.nodes node }
+        requires switch { option_map (λ n. n.kind) (node_of self.now.nodes node) ≡ Some NodeType.Switch }
+        ensures value { option_map switch_input (node_of self.now.nodes node) ≡ Some result }
+        ensures range { result < 32 }
     {
         let _added = self.added;
         unreachable!()

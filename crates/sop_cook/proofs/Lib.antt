@@ -1,0 +1,8 @@
+pub mod MergeLemmas
+pub mod ReadyLemmas
+pub mod GatherLemmas
+pub mod LoadsLemmas
+pub mod KeptLemmas
+pub mod SerialCookLemmas
+pub mod CookLemmas
+pub mod NodeLemmas

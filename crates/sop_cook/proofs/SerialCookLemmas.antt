@@ -1,0 +1,77 @@
+-- The rule of the cook, which speaks of no bound, and when two cooks are the same.
+use Rattle.std.proofs.Common.{◌≡◌, ap, sym, refl, ◌∙◌, subst, ℕ, zero, suc, ◌+◌, ◌-◌, ◌<◌, List, [], ◌∷◌, length, arith, get_or}
+use Rattle.std.specs.Prelude.{Option, None, Some, Contains, slice_get}
+use Rattle.sop_net.specs.Graph.{Within}
+use Rattle.sop_net.specs.declared.kind.NodeType.{NodeType}
+use Rattle.sop_net.specs.declared.kind.NodeType.TheVariants as type
+use Rattle.sop_net.specs.declared.node.Node.{Node}
+use Rattle.sop_net.specs.Network.{node_of, wired, wire_at, parm_at, switch_input, used_wires, wires_used_by, used_sources}
+use Rattle.sop_cook.specs.Loads.{FileMap}
+use Rattle.sop_cook.specs.SerialCook.{Outcome, then_with, at_node, file_geo, merge_geo, gathered, given, merge_outcome, visit_type, visit, cooked, cook_of}
+
+first_is : (x : ℕ) (xs : List ℕ) → Contains (x ∷ xs) x
+first_is x xs = (0, omega arith, refl)
+
+further : (x y : ℕ) (xs : List ℕ) → Contains xs y → Contains (x ∷ xs) y
+further x y xs h = let lt = h.1 in (suc h.0, omega (arith, lt), h.2)
+
+-- a wire's source is among the wired ones
+pub wired_at : (wires : List (Option ℕ)) (i source : ℕ) → wire_at wires i ≡ Some source → Contains (wired wires) source
+wired_at [] i source h = absurd (no h)
+  where
+    no : None ≡ Some source → ⊥
+    no e = cc
+wired_at (None ∷ wires) zero source h = let no : ⊥ = cc in absurd no
+wired_at (Some s ∷ wires) zero source h = let same : s ≡ source = cc in subst (λ t. Contains (s ∷ wired wires) t) same (first_is s (wired wires))
+wired_at (None ∷ wires) (suc i) source h = wired_at wires i source h
+wired_at (Some s ∷ wires) (suc i) source h = further s source (wired wires) (wired_at wires i source h)
+
+same_gathered : (f g : ℕ → Outcome) (wires : List (Option ℕ)) → ((source : ℕ) → Contains (wired wires) source → f source ≡ g source) → gathered f wires ≡ gathered g wires
+same_gathered f g [] same = refl
+same_gathered f g (None ∷ wires) same = same_gathered f g wires same
+same_gathered f g (Some source ∷ wires) same =
+    rw (same source (first_is source (wired wires)), same_gathered f g wires (λ s h. same s (further source s (wired wires) h))) refl
+
+same_given : (f g : ℕ → Outcome) (x input : ℕ) (wire : Option ℕ) → ((source : ℕ) → wire ≡ Some source → f source ≡ g source) → given f x input wire ≡ given g x input wire
+same_given f g x input None same = refl
+same_given f g x input (Some source) same = same source refl
+
+same_visit_type : (f g : ℕ → Outcome) (files others : FileMap) (x : ℕ) (n : Node) (kind : NodeType) → (kind ≡ type.File → files (parm_at n.parms 0) ≡ others (parm_at n.parms 0))
+    → ((source : ℕ) → Contains (wired (wires_used_by kind n)) source → f source ≡ g source) → visit_type f files x n kind ≡ visit_type g others x n kind
+same_visit_type f g files others x n type.File file same = ap (λ load. at_node x (file_geo load)) (file refl)
+same_visit_type f g files others x n type.Merge file same = ap (λ gs. then_with gs (λ inputs. at_node x (merge_geo inputs))) (same_gathered f g n.wires same)
+same_visit_type f g files others x n type.Null file same = same_given f g x 0 (wire_at n.wires 0) (λ source h. same source (wired_at n.wires 0 source h))
+same_visit_type f g files others x n type.Switch file same =
+    same_given f g x (switch_input n) (wire_at n.wires (switch_input n)) (λ source h. same source (wired_at (wire_at n.wires (switch_input n) ∷ []) 0 source h))
+same_visit_type f g files others x n other file same = refl
+
+-- a node gives the same where its file and its sources do
+pub same_visit : (f g : ℕ → Outcome) (files others : FileMap) (x : ℕ) (found : Option Node) → ((n : Node) → found ≡ Some n → n.kind ≡ type.File → files (parm_at n.parms 0) ≡ others (parm_at n.parms 0))
+    → ((source : ℕ) → Contains (wired (used_wires found)) source → f source ≡ g source) → visit f files x found ≡ visit g others x found
+same_visit f g files others x None file same = refl
+same_visit f g files others x (Some n) file same = same_visit_type f g files others x n n.kind (file n refl) same
+
+-- where each way up ends within the bound, one more changes nothing
+one_more : (files : FileMap) (nodes : List Node) (depth x : ℕ) → Within (used_sources nodes) depth x → cooked depth files nodes x ≡ cooked (suc depth) files nodes x
+one_more files nodes zero x within = absurd within
+one_more files nodes (suc depth) x within =
+    same_visit (cooked depth files nodes) (cooked (suc depth) files nodes) files files x (node_of nodes x)
+    (λ n found kind. refl)
+    (λ source used. one_more files nodes depth source (within source used))
+
+-- the rule of the cook
+pub cook_visits : (files : FileMap) (nodes : List Node) (x : ℕ) → Within (used_sources nodes) (length nodes) x → cook_of files nodes x ≡ visit (cook_of files nodes) files x (node_of nodes x)
+cook_visits files nodes x within = one_more files nodes (length nodes) x within
+
+-- a source is within one step less
+pub within_less : (f : ℕ → List ℕ) (left x y : ℕ) → Within f left x → Contains (f x) y → (0 < left) × Within f (left - 1) y
+within_less f zero x y within h = absurd within
+within_less f (suc left) x y within h = let less : suc left - 1 ≡ left = omega arith in (omega arith, subst (λ k. Within f k y) (sym less) (within y h))
+
+-- a used wire's source is one step nearer to the end
+pub source_used : (nodes : List Node) (x i source : ℕ) → wire_at (used_wires (node_of nodes x)) i ≡ Some source → Contains (used_sources nodes x) source
+source_used nodes x i source wire = wired_at (used_wires (node_of nodes x)) i source wire
+
+pub source_within : (nodes : List Node) (left x i source : ℕ) → Within (used_sources nodes) left x → wire_at (used_wires (node_of nodes x)) i ≡ Some source
+    → (0 < left) × Within (used_sources nodes) (left - 1) source
+source_within nodes left x i source within wire = within_less (used_sources nodes) left x source within (source_used nodes x i source wire)

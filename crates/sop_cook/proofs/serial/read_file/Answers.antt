@@ -1,0 +1,11 @@
+use Rattle.std.proofs.Common.{sym, ◌∙◌, ap, subst}
+use Rattle.sop_cook.specs.declared.loaded.LoadedFile.TheVariants.{Bytes}
+use Rattle.sop_cook.specs.SerialCook.{file_geo}
+use Rattle.sop_cook.specs.Keeping.{TellsMade}
+use Rattle.sop_cook.proofs.LoadsLemmas.{file_known}
+use Rattle.sop_cook.proofs.serial.read_file.Goals as goal
+
+pub returns-in-Some-Bytes-clause-tells : goal.returns-in-Some-Bytes-clause-tells
+returns-in-Some-Bytes-clause-tells c =
+    let known = file_known c.args.loaded.now c.args.name.now c.get.result c.in-Some-Bytes.field-0 (Bytes c.in-Some-Bytes.bytes) c.get.ensures c.in-Some-Bytes.is c.in-Some-Bytes.field-0-is in
+    subst (λ file. TellsMade (file_geo file) c.read_bytes.result) (ap Bytes c.as_slice.ensures ∙ sym known) c.read_bytes.ensures.tells

@@ -1,0 +1,8 @@
+use Rattle.std.proofs.Common.{◌≡◌, length, ℕ}
+use Rattle.sop_cook.proofs.uses.+count.Given as goal
+
+abbrev pub decreases-count : goal.decreases-count
+decreases-count l = l.left
+
+abbrev pub invariant-loop-input : goal.invariant-loop-input
+invariant-loop-input l = length l.uses ≡ length l.net.nodes

@@ -1,0 +1,13 @@
+//! The serial cook of a network: each needed node once, inputs before the node.
+#![tactic(auto)]
+
+mod cook_end;
+mod kept;
+mod loaded;
+mod merge;
+mod serial;
+mod uses;
+
+pub use cook_end::CookEnd;
+pub use loaded::{Loaded, LoadedFile};
+pub use serial::cook;
