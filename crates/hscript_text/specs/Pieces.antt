@@ -1,5 +1,5 @@
 -- What a word's text means, piece by piece: a byte that stands for itself, an escape or a variable.
-use Rattle.std.specs.Prelude.{ℕ, zero, suc, ◌+◌, ◌-◌, Bool, true, if◌then◌else◌, ◌&&◌, not, ◌==◌, nat_le, List, [], ◌∷◌, ◌++◌, length, take, drop, min, Option, None, Some, Result, Ok, Err, bytes_eq}
+use Rattle.std.specs.Prelude.{ℕ, zero, suc, ◌+◌, ◌-◌, Bool, true, false, if◌then◌else◌, ◌&&◌, ◌||◌, not, ◌==◌, nat_le, List, [], ◌∷◌, ◌++◌, length, take, drop, min, Option, None, Some, Result, Ok, Err, bytes_eq}
 use Rattle.std.specs.List.{prefix_len}
 use Rattle.sop_model.specs.Geometry.{starts_name, continues_name}
 use Rattle.hscript_text.specs.declared.kind.ScriptKind.{ScriptKind}
@@ -32,25 +32,23 @@ abbrev pub replaced : Option (List ℕ) → ℕ → Piece
 replaced None taken = Err NoVar
 replaced (Some text) taken = Ok (text, taken)
 
+-- whether a text begins with this byte
+abbrev pub begins : ℕ → List ℕ → Bool
+begins b [] = false
+begins b (c ∷ text) = c == b
+
 -- `$NAME`, where the text behind the `$` begins with a name of this length
 abbrev pub named : Variables → ℕ → List ℕ → Piece
-named variables zero text = Err NoVar
-named variables (suc n) text = replaced (variables (take (suc n) text)) (suc n + 1)
-
--- whether a brace closes here
-abbrev pub closes_brace : List ℕ → Bool
-closes_brace [] = not true
-closes_brace (b ∷ text) = b == 125
+named variables n text = if n == 0 then Err NoVar else replaced (variables (take n text)) (n + 1)
 
 -- `${NAME}`, where the text behind the `${` begins with a name of this length
 abbrev pub braced : Variables → ℕ → List ℕ → Piece
-braced variables zero text = Err NoVar
-braced variables (suc n) text = if closes_brace (drop (suc n) text) then replaced (variables (take (suc n) text)) (suc n + 3) else Err NoVar
+braced variables n text = if n == 0 || not (begins 125 (drop n text)) then Err NoVar else replaced (variables (take n text)) (n + 3)
 
 -- A variable, by the text behind its `$`.
 abbrev pub variable : Variables → List ℕ → Piece
-variable variables [] = Err NoVar
-variable variables (b ∷ text) = if b == 123 then braced variables (name_len text) text else named variables (name_len (b ∷ text)) (b ∷ text)
+variable variables text =
+    if begins 123 text then braced variables (name_len (drop 1 text)) (drop 1 text) else named variables (name_len text) text
 
 -- `\"`, `\\`, `\$`, `\n` and `\t`
 abbrev pub escape_of : ℕ → Option ℕ

@@ -1,0 +1,52 @@
+-- Where a text may be cut: beside an ASCII byte.
+use Rattle.std.proofs.Common.{◌≡◌, ℕ, zero, suc, ◌+◌, ◌-◌, ◌≤◌, ◌<◌, List, [], ◌∷◌, length, drop, refl, ap, sym, subst, ◌∙◌, arith, Bool, true, false, not, ◌&&◌, ◌||◌, ◌==◌, nat_le, get_or, min, cond}
+use Rattle.std.proofs.lemmas.Grind.{common_steps}
+use Rattle.std.proofs.lemmas.Bool.Decides.{Decides-eqb}
+use Rattle.std.proofs.lemmas.List.Sums.{prefix_len_passes, prefix_len_stops, prefix_len-le-length}
+use Rattle.std.proofs.lemmas.Str.{IsCharBoundary-before_ascii, IsCharBoundary-after_ascii, IsCharBoundary-end}
+use Rattle.std.specs.Prelude.{Option, Some, None, is_some}
+use Rattle.std.specs.Option.{option_map}
+use Rattle.std.specs.List.{prefix_len}
+use Rattle.std.specs.Str.{IsUtf8, IsCharBoundary}
+use Rattle.sop_model.specs.Geometry.{starts_name, continues_name}
+use Rattle.hscript_text.specs.Pieces.{name_len, begins, escape_of}
+
+continues_ascii : (b : ℕ) → continues_name b ≡ true → b < 128
+continues_ascii b h = grind (arith, common_steps)
+
+name_within : (text : List ℕ) → (name_len text ≤ prefix_len continues_name text)
+name_within [] = omega arith
+name_within (b ∷ text) = elim (starts_name b) as (λ v. cond v (min 64 (prefix_len continues_name (b ∷ text))) 0 ≤ prefix_len continues_name (b ∷ text)) [ true ↦ omega arith | false ↦ omega arith ]
+
+pub name_in_text : (text : List ℕ) → name_len text ≤ length text
+name_in_text text = omega (arith, name_within text, prefix_len-le-length continues_name text)
+
+-- behind a name
+pub behind_name : (text : List ℕ) → IsUtf8 text → 0 < name_len text → IsCharBoundary text (name_len text)
+behind_name text utf8 some =
+    let last : continues_name (get_or text (name_len text - 1) 0) ≡ true = prefix_len_passes continues_name text (name_len text - 1) 0 (omega (arith, name_within text)) in
+    let e : name_len text - 1 + 1 ≡ name_len text = omega arith in
+    subst (IsCharBoundary text) e (IsCharBoundary-after_ascii text (name_len text - 1) utf8 (omega (arith, name_in_text text)) (continues_ascii _ last))
+
+-- behind one ASCII byte
+pub behind_byte : (text : List ℕ) → IsUtf8 text → 0 < length text → get_or text 0 0 < 128 → IsCharBoundary text 1
+behind_byte text utf8 some small = let e : 0 + 1 ≡ 1 = omega arith in subst (IsCharBoundary text) e (IsCharBoundary-after_ascii text 0 utf8 some small)
+
+begins_small : (b : ℕ) (text : List ℕ) → b < 128 → begins b text ≡ true → (0 < length text) × (get_or text 0 0 < 128)
+begins_small b [] small h = absurd (cc)
+begins_small b (c ∷ text) small h = let e : c ≡ b = (Decides-eqb c b).0 h in (omega arith, omega arith)
+
+pub behind_begins : (b : ℕ) (text : List ℕ) → b < 128 → IsUtf8 text → begins b text ≡ true → IsCharBoundary text 1
+behind_begins b text small utf8 h = let s = begins_small b text small h in behind_byte text utf8 s.0 s.1
+
+is_some-option_map : {A C : Type 0} (f : A → C) (o : Option A) → is_some (option_map f o) ≡ is_some o
+is_some-option_map f None = refl
+is_some-option_map f (Some x) = refl
+
+escape_small : (b : ℕ) → is_some (escape_of b) ≡ true → b < 128
+escape_small b h = grind (arith, common_steps)
+
+pub behind_escape : (text bytes : List ℕ) (b : ℕ) → IsUtf8 text → 0 < length text → b ≡ get_or text 0 0 → Some bytes ≡ option_map (λ c. c ∷ []) (escape_of b) → IsCharBoundary text 1
+behind_escape text bytes b utf8 some at e =
+    let known : is_some (escape_of b) ≡ true = sym (is_some-option_map (λ (c : ℕ). c ∷ []) (escape_of b)) ∙ ap is_some (sym e) in
+    behind_byte text utf8 some (subst (λ c. c < 128) at (escape_small b known))

@@ -1,0 +1,35 @@
+-- What the parts of the reader ensure.
+use Rattle.std.specs.Prelude.{◌≡◌, ℕ, ◌+◌, ◌-◌, ◌<◌, ◌≤◌, List, ◌++◌, length, drop, Result, Ok, Err, String}
+use Rattle.std.specs.declared.alloc.Global.{Global}
+use Rattle.std.specs.BTreeMap.{BTreeMap, get_by_text}
+use Rattle.hscript_text.specs.declared.kind.ScriptKind.{ScriptKind}
+use Rattle.hscript_text.specs.declared.kind.ScriptKind.TheVariants.{LongWord}
+use Rattle.hscript_text.specs.declared.kind.Stop.{Stop}
+use Rattle.hscript_text.specs.declared.kind.Stop.TheVariants.{Refused, Memory}
+use Rattle.hscript_text.specs.declared.style.Style.{Style}
+use Rattle.hscript_text.specs.Pieces.{Variables, Piece, Word, behind, word_within}
+
+-- The variables that a map has.
+abbrev pub variables_of : BTreeMap (String Global) (List ℕ) → Variables
+variables_of map name = get_by_text map name
+
+-- A reader may stop so: as refused only with the kind that is meant.
+abbrev pub IsStop : {X : Type 0} → Result X ScriptKind → Stop → Type 0
+IsStop meant (Refused kind) = meant ≡ Err kind
+IsStop meant Memory = Unit {0}
+
+-- A word grew by a text, which is refused where the word would pass 65,536 bytes.
+abbrev pub Adds : List ℕ → List ℕ → List ℕ → Result (Unit {0}) Stop → Type 0
+Adds old new text (Ok done) = (new ≡ old ++ text) × (length text ≤ 65536 - length old)
+Adds old new text (Err (Refused kind)) = (kind ≡ LongWord) × (65536 - length old < length text)
+Adds old new text (Err Memory) = Unit {0}
+
+-- The word that a word so far and the pieces of a text make.
+abbrev pub grown : Style → Variables → List ℕ → List ℕ → Word
+grown style variables word text = behind word (word_within style variables (65536 - length word) 0 text)
+
+-- A piece gives these bytes and leaves this rest of a text, which stands so many bytes behind the piece's start.
+pub record IsTaken (piece : Piece) (bytes text rest : List ℕ) (before : ℕ) : Type 0 where
+  pub taken : ℕ
+  pub gives : piece ≡ Ok (bytes, taken + before)
+  pub leaves : rest ≡ drop taken text
