@@ -1,6 +1,7 @@
 -- Where a text may be cut: beside an ASCII byte.
-use Rattle.std.proofs.Common.{◌≡◌, ℕ, zero, suc, ◌+◌, ◌-◌, ◌≤◌, ◌<◌, List, [], ◌∷◌, length, drop, refl, ap, sym, subst, ◌∙◌, arith, Bool, true, false, not, ◌&&◌, ◌||◌, ◌==◌, nat_le, get_or, min, cond}
+use Rattle.std.proofs.Common.{◌≡◌, ℕ, zero, suc, ◌+◌, ◌-◌, ◌≤◌, ◌<◌, List, [], ◌∷◌, length, drop, refl, ap, sym, subst, ◌∙◌, arith, Bool, true, false, not, ◌&&◌, ◌||◌, ◌==◌, nat_le, get_or, min, cond, inl, inr}
 use Rattle.std.proofs.lemmas.Grind.{common_steps}
+use Rattle.std.proofs.lemmas.Bool.{cases_lt}
 use Rattle.std.proofs.lemmas.Bool.Decides.{Decides-eqb}
 use Rattle.std.proofs.lemmas.List.Sums.{prefix_len_passes, prefix_len_stops, prefix_len-le-length}
 use Rattle.std.proofs.lemmas.Str.{IsCharBoundary-before_ascii, IsCharBoundary-after_ascii, IsCharBoundary-end}
@@ -9,7 +10,9 @@ use Rattle.std.specs.Option.{option_map}
 use Rattle.std.specs.List.{prefix_len}
 use Rattle.std.specs.Str.{IsUtf8, IsCharBoundary}
 use Rattle.sop_model.specs.Geometry.{starts_name, continues_name}
-use Rattle.hscript_text.specs.Pieces.{name_len, begins, escape_of}
+use Rattle.hscript_text.specs.declared.style.Style.{Style}
+use Rattle.hscript_text.specs.declared.style.Style.TheVariants.{Bare, Single, Double}
+use Rattle.hscript_text.specs.Pieces.{name_len, begins, escape_of, is_plain}
 
 continues_ascii : (b : ℕ) → continues_name b ≡ true → b < 128
 continues_ascii b h = grind (arith, common_steps)
@@ -50,3 +53,20 @@ pub behind_escape : (text bytes : List ℕ) (b : ℕ) → IsUtf8 text → 0 < le
 behind_escape text bytes b utf8 some at e =
     let known : is_some (escape_of b) ≡ true = sym (is_some-option_map (λ (c : ℕ). c ∷ []) (escape_of b)) ∙ ap is_some (sym e) in
     behind_byte text utf8 some (subst (λ c. c < 128) at (escape_small b known))
+
+mark_small : (style : Style) (b : ℕ) → is_plain style b ≡ false → b < 128
+mark_small Bare b h = grind (arith, common_steps)
+mark_small Single b h = absurd (cc)
+mark_small Double b h = grind (arith, common_steps)
+
+-- behind a run of plain bytes
+pub behind_run : (style : Style) (text : List ℕ) (n : ℕ) → n ≡ prefix_len (is_plain style) text → IsCharBoundary text n
+behind_run style text n e =
+    let within : n ≤ length text = omega (arith, prefix_len-le-length (is_plain style) text) in
+    elim (cases_lt n (length text)) [
+      | inl h ↦ IsCharBoundary-before_ascii text n h (mark_small style _ (ap (λ k. is_plain style (get_or text k 0)) e ∙ prefix_len_stops (is_plain style) text 0 (subst (λ k. k < length text) e h)))
+      | inr h ↦ (let s : n ≡ length text = omega arith in subst (IsCharBoundary text) (sym s) (IsCharBoundary-end text))
+    ]
+
+pub behind_mark : (style : Style) (text : List ℕ) (b : ℕ) → IsUtf8 text → 0 < length text → b ≡ get_or text 0 0 → is_plain style b ≡ false → IsCharBoundary text 1
+behind_mark style text b utf8 some at h = behind_byte text utf8 some (subst (λ c. c < 128) at (mark_small style b h))

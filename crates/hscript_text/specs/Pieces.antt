@@ -75,9 +75,13 @@ is_plain Bare b = not (b == 36)
 is_plain Single b = true
 is_plain Double b = not (b == 36) && not (b == 92)
 
+-- A piece that begins with a byte that doesn't stand for itself.
+abbrev pub special : Variables → ℕ → List ℕ → Piece
+special variables b text = if b == 36 then variable variables text else escape text
+
 -- The piece that begins with this byte.
 abbrev pub piece : Style → Variables → ℕ → List ℕ → Piece
-piece style variables b text = if is_plain style b then Ok (b ∷ [], 1) else if b == 36 then variable variables text else escape text
+piece style variables b text = if is_plain style b then Ok (b ∷ [], 1) else special variables b text
 
 abbrev pub Word : Type 0
 Word = Result (List ℕ) ScriptKind

@@ -8,6 +8,7 @@ use Rattle.hscript_text.specs.declared.kind.Stop.{Stop}
 use Rattle.hscript_text.specs.declared.kind.Stop.TheVariants.{Refused, Memory}
 use Rattle.hscript_text.specs.declared.style.Style.{Style}
 use Rattle.hscript_text.specs.Pieces.{Variables, Piece, Word, behind, word_within}
+use Rattle.hscript_text.specs.Words.{Taken, Command, with_words, command_from}
 
 -- The variables that a map has.
 abbrev pub variables_of : BTreeMap (String Global) (List ℕ) → Variables
@@ -33,3 +34,21 @@ pub record IsTaken (piece : Piece) (bytes text rest : List ℕ) (before : ℕ) :
   pub taken : ℕ
   pub gives : piece ≡ Ok (bytes, taken + before)
   pub leaves : rest ≡ drop taken text
+
+-- A text stands at the end of another.
+pub record IsRest (text rest : List ℕ) : Type 0 where
+  pub before : ℕ
+  pub inside : before ≤ length text
+  pub is : rest ≡ drop before text
+
+-- A word is read from a text, at least a byte, and leaves this rest. It began so many bytes before the text.
+pub record IsRead (taken : Taken) (word text rest : List ℕ) (before : ℕ) : Type 0 where
+  pub bytes : ℕ
+  pub gives : taken ≡ Ok (word, bytes + before)
+  pub leaves : rest ≡ drop bytes text
+  pub some : 0 < bytes + before
+  pub inside : bytes ≤ length text
+
+-- The command that words so far and the words of a text make.
+abbrev pub joined : Variables → List (List ℕ) → List ℕ → Command
+joined variables words text = with_words words (command_from variables 0 text)

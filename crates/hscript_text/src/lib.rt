@@ -2,10 +2,13 @@
 #![tactic(auto)]
 
 mod cut;
+mod grow;
 mod kind;
 mod piece;
+mod quotes;
 mod style;
 mod variables;
 mod word;
+mod words;
 
 pub use kind::ScriptKind;

@@ -87,7 +87,7 @@ fn braced<'v>(variables: &'v Variables, text: &'v str) -> Result<(&'v str, &'v s
 }
 
 /// The variable behind a `$`: its text, and the text behind it.
-fn variable<'v>(variables: &'v Variables, text: &'v str) -> Result<(&'v str, &'v str), Stop>
+pub fn variable<'v>(variables: &'v Variables, text: &'v str) -> Result<(&'v str, &'v str), Stop>
     ensures ok { IfOk result (λ v. IsTaken (variable (variables_of variables.now.texts) text.now) v.0.now text.now v.1.now 1) }
     ensures err { IfErr result (λ stop. IsStop (variable (variables_of variables.now.texts) text.now) stop) }
 {
@@ -112,7 +112,7 @@ fn escape_of(b: u8) -> Option<&'static str>
 }
 
 /// The escape behind a backslash: the byte that it gives, and the text behind it.
-fn escape(text: &str) -> Result<(&str, &str), Stop>
+pub fn escape(text: &str) -> Result<(&str, &str), Stop>
     ensures ok { IfOk result (λ v. IsTaken (escape text.now) v.0.now text.now v.1.now 1) }
     ensures err { IfErr result (λ stop. IsStop (escape text.now) stop) }
 {
