@@ -3,8 +3,9 @@ use Rattle.std.proofs.Common.{◌≡◌, ℕ, zero, suc, ◌+◌, ◌-◌, ◌�
 use Rattle.std.proofs.lemmas.Grind.{common_steps}
 use Rattle.std.proofs.lemmas.Bool.{cases_lt}
 use Rattle.std.proofs.lemmas.Bool.Decides.{Decides-eqb}
+use Rattle.std.proofs.lemmas.List.{get_or-drop, length-drop}
 use Rattle.std.proofs.lemmas.List.Sums.{prefix_len_passes, prefix_len_stops, prefix_len-le-length}
-use Rattle.std.proofs.lemmas.Str.{IsCharBoundary-before_ascii, IsCharBoundary-after_ascii, IsCharBoundary-end}
+use Rattle.std.proofs.lemmas.Str.{IsCharBoundary-before_ascii, IsCharBoundary-after_ascii, IsCharBoundary-end, IsUtf8-drop}
 use Rattle.std.specs.Prelude.{Option, Some, None, is_some}
 use Rattle.std.specs.Option.{option_map}
 use Rattle.std.specs.List.{prefix_len}
@@ -13,6 +14,7 @@ use Rattle.sop_model.specs.Geometry.{starts_name, continues_name}
 use Rattle.hscript_text.specs.declared.style.Style.{Style}
 use Rattle.hscript_text.specs.declared.style.Style.TheVariants.{Bare, Single, Double}
 use Rattle.hscript_text.specs.Pieces.{name_len, begins, escape_of, is_plain}
+use Rattle.hscript_text.specs.Words.{is_bare}
 
 continues_ascii : (b : ℕ) → continues_name b ≡ true → b < 128
 continues_ascii b h = grind (arith, common_steps)
@@ -59,14 +61,36 @@ mark_small Bare b h = grind (arith, common_steps)
 mark_small Single b h = absurd (cc)
 mark_small Double b h = grind (arith, common_steps)
 
--- behind a run of plain bytes
-pub behind_run : (style : Style) (text : List ℕ) (n : ℕ) → n ≡ prefix_len (is_plain style) text → IsCharBoundary text n
-behind_run style text n e =
-    let within : n ≤ length text = omega (arith, prefix_len-le-length (is_plain style) text) in
+-- behind the bytes that pass a test, where what doesn't is ASCII
+behind_passing : (passes : ℕ → Bool) → ((b : ℕ) → passes b ≡ false → b < 128) → (text : List ℕ) (n : ℕ) → n ≡ prefix_len passes text → IsCharBoundary text n
+behind_passing passes small text n e =
+    let within : n ≤ length text = omega (arith, prefix_len-le-length passes text) in
     elim (cases_lt n (length text)) [
-      | inl h ↦ IsCharBoundary-before_ascii text n h (mark_small style _ (ap (λ k. is_plain style (get_or text k 0)) e ∙ prefix_len_stops (is_plain style) text 0 (subst (λ k. k < length text) e h)))
+      | inl h ↦ IsCharBoundary-before_ascii text n h (small _ (ap (λ k. passes (get_or text k 0)) e ∙ prefix_len_stops passes text 0 (subst (λ k. k < length text) e h)))
       | inr h ↦ (let s : n ≡ length text = omega arith in subst (IsCharBoundary text) (sym s) (IsCharBoundary-end text))
     ]
+
+-- behind a run of plain bytes
+pub behind_run : (style : Style) (text : List ℕ) (n : ℕ) → n ≡ prefix_len (is_plain style) text → IsCharBoundary text n
+behind_run style = behind_passing (is_plain style) (mark_small style)
+
+bare_small : (b : ℕ) → is_bare b ≡ false → b < 128
+bare_small b h = grind (arith, common_steps)
+
+-- behind a bare word
+pub behind_bare : (text : List ℕ) (n : ℕ) → n ≡ prefix_len is_bare text → IsCharBoundary text n
+behind_bare = behind_passing is_bare bare_small
+
+-- before and behind a closing quote
+pub before_end : (text : List ℕ) (n : ℕ) → (n < length text) × (get_or text n 0 < 128) → IsCharBoundary text n
+before_end text n h = IsCharBoundary-before_ascii text n h.0 h.1
+
+pub behind_end : (text after : List ℕ) (n : ℕ) → IsUtf8 text → (n < length text) × (get_or text n 0 < 128) → after ≡ drop n text → IsCharBoundary after 1
+behind_end text after n utf8 h e =
+    let here : n + 0 ≡ n = omega arith in
+    let small : get_or (drop n text) 0 0 < 128 = subst (λ b. b < 128) (sym (get_or-drop n text 0 0 ∙ ap (λ k. get_or text k 0) here)) h.1 in
+    let size : length (drop n text) ≡ length text - n = length-drop n text in
+    subst (λ t. IsCharBoundary t 1) (sym e) (behind_byte (drop n text) (IsUtf8-drop text n utf8 (before_end text n h)) (omega (arith, h.0)) small)
 
 pub behind_mark : (style : Style) (text : List ℕ) (b : ℕ) → IsUtf8 text → 0 < length text → b ≡ get_or text 0 0 → is_plain style b ≡ false → IsCharBoundary text 1
 behind_mark style text b utf8 some at h = behind_byte text utf8 some (subst (λ c. c < 128) at (mark_small style b h))

@@ -1,5 +1,5 @@
 -- What the parts of the reader ensure.
-use Rattle.std.specs.Prelude.{◌≡◌, ℕ, ◌+◌, ◌-◌, ◌<◌, ◌≤◌, List, ◌++◌, length, drop, Result, Ok, Err, String}
+use Rattle.std.specs.Prelude.{◌≡◌, ℕ, ◌+◌, ◌-◌, ◌<◌, ◌≤◌, List, ◌++◌, length, drop, slice_index, Option, None, Some, Result, Ok, Err, String}
 use Rattle.std.specs.declared.alloc.Global.{Global}
 use Rattle.std.specs.BTreeMap.{BTreeMap, get_by_text}
 use Rattle.hscript_text.specs.declared.kind.ScriptKind.{ScriptKind}
@@ -52,3 +52,8 @@ pub record IsRead (taken : Taken) (word text rest : List ℕ) (before : ℕ) : T
 -- The command that words so far and the words of a text make.
 abbrev pub joined : Variables → List (List ℕ) → List ℕ → Command
 joined variables words text = with_words words (command_from variables 0 text)
+
+-- If a closing quote was found, it stands at this place of the text, and is an ASCII byte.
+abbrev pub IsEnd : List ℕ → Option ℕ → Type 0
+IsEnd text None = Unit {0}
+IsEnd text (Some n) = (n < length text) × (slice_index text n < 128)

@@ -1,9 +1,9 @@
 // The words of a command.
-ghost use Rattle.std.specs.Prelude.{◌≡◌, ◌<◌, ◌≤◌, ◌==◌, Ok, IfOk, IfErr, ForSome, IfSome, length, drop, position, slice_index, false};
+ghost use Rattle.std.specs.Prelude.{◌≡◌, ◌<◌, ◌≤◌, ◌==◌, Ok, IfOk, IfErr, length, drop, position, slice_index, false};
 ghost use Rattle.hscript_text.specs.declared.style.Opening.TheVariants as opening;
 ghost use Rattle.hscript_text.specs.declared.style.Style.TheVariants as style;
 ghost use Rattle.hscript_text.specs.Words.{opening_of, bare, quoted, first_word, unescaped_quote, command_of};
-ghost use Rattle.hscript_text.specs.Reading.{variables_of, IsStop, IsRead, IsRest};
+ghost use Rattle.hscript_text.specs.Reading.{variables_of, IsStop, IsRead, IsRest, IsEnd};
 
 use crate::cut::cut;
 use crate::grow::word_of;
@@ -31,8 +31,7 @@ fn bare<'a>(alloc: Global, variables: &Variables, text: &'a str) -> Result<(Word
 
 /// A quoted word by the text behind its opening quote and the place of the closing one there, and the text behind it.
 fn quoted<'a>(alloc: Global, style: Style, variables: &Variables, end: Option<usize>, text: &'a str) -> Result<(Word, &'a str), Stop>
-    requires inside { IfSome end (λ n. n < length text.now) }
-    requires ascii { IfSome end (λ n. slice_index text.now n < 128) }
+    requires { IsEnd text.now end }
     ensures ok { IfOk result (λ read. IsRead (quoted style (variables_of variables.now.texts) end text.now) read.0 text.now read.1.now 1) }
     ensures err { IfErr result (λ stop. IsStop (quoted style (variables_of variables.now.texts) end text.now) stop) }
 {
