@@ -1,10 +1,12 @@
 -- The place of the closing quote, read a byte at a time.
-use Rattle.std.proofs.Common.{◌≡◌, ℕ, zero, suc, ◌+◌, ◌-◌, ◌≤◌, ◌<◌, List, [], ◌∷◌, length, take, drop, refl, ap, sym, subst, ◌∙◌, arith, Bool, true, false, ◌==◌, get_or, eq-eqb, cond}
+use Rattle.std.proofs.Common.{◌≡◌, ℕ, zero, suc, ◌+◌, ◌-◌, ◌≤◌, ◌<◌, List, [], ◌∷◌, length, take, drop, refl, ap, sym, subst, ◌∙◌, arith, Bool, true, false, ◌==◌, get_or, eq-eqb, cond, nat_lt}
 use Rattle.std.specs.Prelude.{Option, Some, None, position}
 use Rattle.std.specs.Option.{option_map}
 use Rattle.std.proofs.lemmas.Bool.{ne_eqb}
 use Rattle.std.proofs.lemmas.Bool.Decides.{Decides-eqb}
 use Rattle.std.proofs.lemmas.List.{drop_more, drop_all}
+use Rattle.std.proofs.lemmas.List.Sums.{passes_at_first}
+use Rattle.std.specs.List.{position_or_len}
 use Rattle.hscript_text.specs.Words.{unescaped_quote}
 use Rattle.hscript_text.specs.Reading.{IsEnd}
 
@@ -54,3 +56,14 @@ double_end false (b ∷ text) = elim (b == 34) as (λ v. (b == 34) ≡ v → IsE
   | true ↦ λ e. (let q : b ≡ 34 = (Decides-eqb b 34).0 e in (omega arith, omega arith))
   | false ↦ λ e. end_later b text (unescaped_quote (b == 92) text) (double_end (b == 92) text)
 ] refl
+
+lt_from : (a b : ℕ) → nat_lt a b ≡ true → a < b
+lt_from a b h = grind arith
+
+pub single_end : (text : List ℕ) → IsEnd text (position (λ b. b == 39) text)
+single_end text =
+    let n = position_or_len (λ b. b == 39) text in
+    elim (nat_lt n (length text)) as (λ v. nat_lt n (length text) ≡ v → IsEnd text (cond v (Some n) None)) [
+      | true ↦ λ e. (let h : n < length text = lt_from n (length text) e in let q : get_or text n 0 ≡ 39 = (Decides-eqb _ 39).0 (passes_at_first (λ b. b == 39) text 0 h) in (h, omega arith))
+      | false ↦ λ e. tt
+    ] refl

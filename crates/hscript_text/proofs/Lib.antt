@@ -2,3 +2,5 @@ pub mod Cuts
 pub mod Pieces
 pub mod Growth
 pub mod Closings
+pub mod Commands
+pub mod Openings

@@ -46,3 +46,50 @@ fn quoted<'a>(alloc: Global, style: Style, variables: &Variables, end: Option<us
         Err(stop) => Err(stop),
     }
 }
+
+/// The word of this style that a text begins with, and the text behind it.
+fn read_word<'a>(alloc: Global, style: Style, variables: &Variables, text: &'a str) -> Result<(Word, &'a str), Stop>
+    requires some { 0 < length text.now }
+    requires begins { opening_of (slice_index text.now 0) ≡ opening.Word style }
+    ensures ok { IfOk result (λ read. IsRead (first_word style (variables_of variables.now.texts) text.now) read.0 text.now read.1.now 0) }
+    ensures err { IfErr result (λ stop. IsStop (first_word style (variables_of variables.now.texts) text.now) stop) }
+{
+    match style {
+        Style::Bare => bare(alloc, variables, text),
+        Style::Single => {
+            let body = cut(text, 1).1;
+            quoted(alloc, style, variables, single_quote(body.as_bytes()), body)
+        }
+        Style::Double => {
+            let body = cut(text, 1).1;
+            quoted(alloc, style, variables, unescaped_quote(body.as_bytes()), body)
+        }
+    }
+}
+
+/// The words of the command that a text begins with, and the text behind its line.
+pub fn read_command<'a>(alloc: Global, variables: &Variables, text: &'a str) -> Result<(Vec<Word>, &'a str), Stop>
+    ensures ok { IfOk result (λ read. command_of (variables_of variables.now.texts) text.now ≡ Ok (read.0.items, read.1.now)) }
+    ensures rest { IfOk result (λ read. IsRest text.now read.1.now) }
+    ensures err { IfErr result (λ stop. IsStop (command_of (variables_of variables.now.texts) text.now) stop) }
+{
+    let mut words = Vec::new(alloc);
+    let mut rest = text;
+    'words: while let [b, ..] = rest.as_bytes() {
+        match opening_of(*b) {
+            Opening::Blank => rest = cut(rest, 1).1,
+            Opening::LineEnd => return Ok((words, cut(rest, 1).1)),
+            Opening::Word(style) => {
+                let (word, behind) = match read_word(alloc, style, variables, rest) {
+                    Ok(read) => read,
+                    Err(stop) => return Err(stop),
+                };
+                match words.push(word) {
+                    Ok(()) => rest = behind,
+                    Err(_) => return Err(Stop::Memory),
+                }
+            }
+        }
+    }
+    Ok((words, rest))
+}
