@@ -1,5 +1,6 @@
 // The words of a command.
 ghost use Rattle.std.specs.Prelude.{◌≡◌, ◌<◌, ◌≤◌, ◌==◌, Ok, IfOk, IfErr, length, drop, position, slice_index, false};
+ghost use Rattle.std.specs.Str.{IsUtf8};
 ghost use Rattle.hscript_text.specs.declared.style.Opening.TheVariants as opening;
 ghost use Rattle.hscript_text.specs.declared.style.Style.TheVariants as style;
 ghost use Rattle.hscript_text.specs.Words.{opening_of, bare, quoted, first_word, unescaped_quote, command_of};
@@ -19,6 +20,7 @@ fn bare<'a>(alloc: Global, variables: &Variables, text: &'a str) -> Result<(Word
     requires some { 0 < length text.now }
     requires begins { opening_of (slice_index text.now 0) ≡ opening.Word style.Bare }
     ensures ok { IfOk result (λ read. IsRead (bare (variables_of variables.now.texts) text.now) read.0 text.now read.1.now 0) }
+    ensures utf8 { IfOk result (λ read. IsUtf8 read.1.now) }
     ensures err { IfErr result (λ stop. IsStop (bare (variables_of variables.now.texts) text.now) stop) }
 {
     let (body, rest) = cut(text, bare_len(text.as_bytes()));
@@ -33,6 +35,7 @@ fn bare<'a>(alloc: Global, variables: &Variables, text: &'a str) -> Result<(Word
 fn quoted<'a>(alloc: Global, style: Style, variables: &Variables, end: Option<usize>, text: &'a str) -> Result<(Word, &'a str), Stop>
     requires { IsEnd text.now end }
     ensures ok { IfOk result (λ read. IsRead (quoted style (variables_of variables.now.texts) end text.now) read.0 text.now read.1.now 1) }
+    ensures utf8 { IfOk result (λ read. IsUtf8 read.1.now) }
     ensures err { IfErr result (λ stop. IsStop (quoted style (variables_of variables.now.texts) end text.now) stop) }
 {
     let Some(n) = end else {
@@ -52,6 +55,7 @@ fn read_word<'a>(alloc: Global, style: Style, variables: &Variables, text: &'a s
     requires some { 0 < length text.now }
     requires begins { opening_of (slice_index text.now 0) ≡ opening.Word style }
     ensures ok { IfOk result (λ read. IsRead (first_word style (variables_of variables.now.texts) text.now) read.0 text.now read.1.now 0) }
+    ensures utf8 { IfOk result (λ read. IsUtf8 read.1.now) }
     ensures err { IfErr result (λ stop. IsStop (first_word style (variables_of variables.now.texts) text.now) stop) }
 {
     match style {
