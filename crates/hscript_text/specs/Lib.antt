@@ -1,3 +1,5 @@
 pub mod Pieces
 pub mod Words
+pub mod Effects
+pub mod Script
 pub mod Reading

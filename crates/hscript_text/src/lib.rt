@@ -6,9 +6,12 @@ mod grow;
 mod kind;
 mod piece;
 mod quotes;
+mod script;
 mod style;
 mod variables;
+mod verb;
 mod word;
 mod words;
 
 pub use kind::ScriptKind;
+pub use script::Script;

@@ -13,13 +13,13 @@ use crate::variables::Variables;
 use crate::word::Word;
 use std::alloc::Global;
 
-fn starts_name(b: u8) -> bool
+pub fn starts_name(b: u8) -> bool
     ensures { result ≡ starts_name b }
 {
     b.is_ascii_alphabetic() || b == b'_'
 }
 
-fn continues_name(b: u8) -> bool
+pub fn continues_name(b: u8) -> bool
     ensures { result ≡ continues_name b }
 {
     starts_name(b) || b.is_ascii_digit()
