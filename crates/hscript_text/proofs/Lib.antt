@@ -4,3 +4,4 @@ pub mod Growth
 pub mod Closings
 pub mod Commands
 pub mod Openings
+pub mod Echoing

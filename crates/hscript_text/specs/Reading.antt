@@ -1,18 +1,22 @@
 -- What the parts of the reader ensure.
-use Rattle.std.specs.Prelude.{◌≡◌, ℕ, ◌+◌, ◌-◌, ◌<◌, ◌≤◌, List, ◌++◌, length, drop, slice_index, Option, None, Some, Result, Ok, Err, String}
-use Rattle.std.specs.declared.alloc.Global.{Global}
-use Rattle.std.specs.BTreeMap.{BTreeMap, get_by_text}
+use Rattle.std.specs.Prelude.{◌≡◌, ℕ, zero, suc, ◌+◌, ◌-◌, ◌<◌, ◌≤◌, List, [], ◌∷◌, ◌++◌, length, drop, slice_index, Option, None, Some, Result, Ok, Err}
+use Rattle.std.specs.BTreeMap.{get_by_text}
+use Rattle.sop_net.specs.declared.net_end.NetEnd.{NetEnd}
+use Rattle.sop_net.specs.declared.net_end.NetEnd.TheVariants as end
 use Rattle.hscript_text.specs.declared.kind.ScriptKind.{ScriptKind}
-use Rattle.hscript_text.specs.declared.kind.ScriptKind.TheVariants.{LongWord}
+use Rattle.hscript_text.specs.declared.kind.ScriptKind.TheVariants.{LongWord, Limit}
 use Rattle.hscript_text.specs.declared.kind.Stop.{Stop}
 use Rattle.hscript_text.specs.declared.kind.Stop.TheVariants.{Refused, Memory}
 use Rattle.hscript_text.specs.declared.style.Style.{Style}
+use Rattle.hscript_text.specs.declared.variables.Variables as texts
+use Rattle.hscript_text.specs.declared.reader.Reader.{Reader}
 use Rattle.hscript_text.specs.Pieces.{Variables, Piece, Word, behind, word_within}
+use Rattle.hscript_text.specs.Effects.{State, kind_of}
 use Rattle.hscript_text.specs.Words.{Taken, Command, with_words, command_from}
 
--- The variables that a map has.
-abbrev pub variables_of : BTreeMap (String Global) (List ℕ) → Variables
-variables_of map name = get_by_text map name
+-- The variables of the reader.
+abbrev pub variables_of : texts.Variables → Variables
+variables_of v name = get_by_text v.texts name
 
 -- A reader may stop so: as refused only with the kind that is meant.
 abbrev pub IsStop : {X : Type 0} → Result X ScriptKind → Stop → Type 0
@@ -24,6 +28,22 @@ abbrev pub Adds : List ℕ → List ℕ → List ℕ → Result (Unit {0}) Stop 
 Adds old new text (Ok done) = (new ≡ old ++ text) × (length text ≤ 65536 - length old)
 Adds old new text (Err (Refused kind)) = (kind ≡ LongWord) × (65536 - length old < length text)
 Adds old new text (Err Memory) = Unit {0}
+
+-- The echoed text grew by a text, which is refused where it would pass 1 MiB.
+abbrev pub Echoes : List ℕ → List ℕ → List ℕ → Result (Unit {0}) Stop → Type 0
+Echoes old new text (Ok done) = (new ≡ old ++ text) × (length new ≤ 1048576)
+Echoes old new text (Err (Refused kind)) = (kind ≡ Limit) × (1048576 < length old + length text)
+Echoes old new text (Err Memory) = Unit {0}
+
+-- what stands before word `i` of a line
+abbrev pub between : ℕ → List ℕ
+between zero = []
+between (suc i) = 32 ∷ []
+
+-- how a step of the network that fails ends a command
+abbrev pub stop_of : NetEnd → Stop
+stop_of end.Memory = Memory
+stop_of other = Refused (kind_of other)
 
 -- The word that a word so far and the pieces of a text make.
 abbrev pub grown : Style → Variables → List ℕ → List ℕ → Word
@@ -57,3 +77,7 @@ joined variables words text = with_words words (command_from variables 0 text)
 abbrev pub IsEnd : List ℕ → Option ℕ → Type 0
 IsEnd text None = Unit {0}
 IsEnd text (Some n) = (n < length text) × (slice_index text n < 128)
+
+-- The state of the reader.
+abbrev pub state_of : Reader → State
+state_of r = record { net = r.net; variables = variables_of r.variables; echoed = r.echoed }

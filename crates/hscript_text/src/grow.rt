@@ -20,8 +20,8 @@ fn plain_len(style: Style, text: &[u8]) -> usize
 
 /// What stands behind a byte that doesn't stand for itself: what both give, and the text behind them.
 fn special<'a>(variables: &'a Variables, b: u8, text: &'a str) -> Result<(&'a str, &'a str), Stop>
-    ensures ok { IfOk result (λ v. IsTaken (special (variables_of variables.now.texts) b text.now) v.0.now text.now v.1.now 1) }
-    ensures err { IfErr result (λ stop. IsStop (special (variables_of variables.now.texts) b text.now) stop) }
+    ensures ok { IfOk result (λ v. IsTaken (special (variables_of variables.now) b text.now) v.0.now text.now v.1.now 1) }
+    ensures err { IfErr result (λ stop. IsStop (special (variables_of variables.now) b text.now) stop) }
 {
     if b == b'$' {
         variable(variables, text)
@@ -32,9 +32,9 @@ fn special<'a>(variables: &'a Variables, b: u8, text: &'a str) -> Result<(&'a st
 
 /// Adds the plain bytes that a text begins with, and answers the text behind them.
 fn add_run<'a>(word: &mut Word, style: Style, variables: &Variables, text: &'a str) -> Result<&'a str, Stop>
-    ensures ok { IfOk result (λ rest. grown style (variables_of variables.now.texts) word.old text.now ≡ grown style (variables_of variables.now.texts) word.new rest.now) }
+    ensures ok { IfOk result (λ rest. grown style (variables_of variables.now) word.old text.now ≡ grown style (variables_of variables.now) word.new rest.now) }
     ensures rest { IfOk result (λ rest. rest.now ≡ drop (prefix_len (is_plain style) text.now) text.now) }
-    ensures err { IfErr result (λ stop. IsStop (grown style (variables_of variables.now.texts) word.old text.now) stop) }
+    ensures err { IfErr result (λ stop. IsStop (grown style (variables_of variables.now) word.old text.now) stop) }
 {
     let n = plain_len(style, text.as_bytes());
     let (run, rest) = cut(text, n);
@@ -47,9 +47,9 @@ fn add_run<'a>(word: &mut Word, style: Style, variables: &Variables, text: &'a s
 /// Adds what a byte that doesn't stand for itself gives with the text behind it, and answers the text behind both.
 fn add_special<'a>(word: &mut Word, style: Style, variables: &'a Variables, b: u8, text: &'a str) -> Result<&'a str, Stop>
     requires { is_plain style b ≡ false }
-    ensures ok { IfOk result (λ rest. grown style (variables_of variables.now.texts) word.old (b ∷ text.now) ≡ grown style (variables_of variables.now.texts) word.new rest.now) }
+    ensures ok { IfOk result (λ rest. grown style (variables_of variables.now) word.old (b ∷ text.now) ≡ grown style (variables_of variables.now) word.new rest.now) }
     ensures rest { IfOk result (λ rest. length rest.now ≤ length text.now) }
-    ensures err { IfErr result (λ stop. IsStop (grown style (variables_of variables.now.texts) word.old (b ∷ text.now)) stop) }
+    ensures err { IfErr result (λ stop. IsStop (grown style (variables_of variables.now) word.old (b ∷ text.now)) stop) }
 {
     match special(variables, b, text) {
         Ok((bytes, rest)) => match word.add(bytes) {
@@ -63,9 +63,9 @@ fn add_special<'a>(word: &mut Word, style: Style, variables: &'a Variables, b: u
 /// Adds the pieces that a text begins with, at least one, and answers the text behind them.
 fn add_pieces<'a>(word: &mut Word, style: Style, variables: &'a Variables, text: &'a str) -> Result<&'a str, Stop>
     requires some { 0 < length text.now }
-    ensures ok { IfOk result (λ rest. grown style (variables_of variables.now.texts) word.old text.now ≡ grown style (variables_of variables.now.texts) word.new rest.now) }
+    ensures ok { IfOk result (λ rest. grown style (variables_of variables.now) word.old text.now ≡ grown style (variables_of variables.now) word.new rest.now) }
     ensures rest { IfOk result (λ rest. length rest.now < length text.now) }
-    ensures err { IfErr result (λ stop. IsStop (grown style (variables_of variables.now.texts) word.old text.now) stop) }
+    ensures err { IfErr result (λ stop. IsStop (grown style (variables_of variables.now) word.old text.now) stop) }
 {
     match text.as_bytes() {
         [b, ..] if !style.is_plain(*b) => add_special(word, style, variables, *b, cut(text, 1).1),
@@ -75,8 +75,8 @@ fn add_pieces<'a>(word: &mut Word, style: Style, variables: &'a Variables, text:
 
 /// The word that the pieces of a text make.
 pub fn word_of(alloc: Global, style: Style, variables: &Variables, text: &str) -> Result<Word, Stop>
-    ensures ok { IfOk result (λ word. word_of style (variables_of variables.now.texts) text.now ≡ Ok word) }
-    ensures err { IfErr result (λ stop. IsStop (word_of style (variables_of variables.now.texts) text.now) stop) }
+    ensures ok { IfOk result (λ word. word_of style (variables_of variables.now) text.now ≡ Ok word) }
+    ensures err { IfErr result (λ stop. IsStop (word_of style (variables_of variables.now) text.now) stop) }
 {
     let mut word = Word::new(alloc);
     let mut rest = text;

@@ -2,10 +2,13 @@
 #![tactic(auto)]
 
 mod cut;
+mod echoed;
+mod effects;
 mod grow;
 mod kind;
 mod piece;
 mod quotes;
+mod reader;
 mod script;
 mod style;
 mod variables;

@@ -43,8 +43,8 @@ fn name_len(text: &[u8]) -> usize
 
 /// The variable whose name stands behind a `$`: its text, and the text behind the name.
 fn named<'v>(variables: &'v Variables, text: &'v str) -> Result<(&'v str, &'v str), Stop>
-    ensures ok { IfOk result (λ v. IsTaken (named (variables_of variables.now.texts) (name_len text.now) text.now) v.0.now text.now v.1.now 1) }
-    ensures err { IfErr result (λ stop. IsStop (named (variables_of variables.now.texts) (name_len text.now) text.now) stop) }
+    ensures ok { IfOk result (λ v. IsTaken (named (variables_of variables.now) (name_len text.now) text.now) v.0.now text.now v.1.now 1) }
+    ensures err { IfErr result (λ stop. IsStop (named (variables_of variables.now) (name_len text.now) text.now) stop) }
 {
     let n = name_len(text.as_bytes());
     if n == 0 {
@@ -68,8 +68,8 @@ fn begins(b: u8, text: &str) -> bool
 
 /// The variable whose name stands behind `${`: its text, and the text behind the `}`.
 fn braced<'v>(variables: &'v Variables, text: &'v str) -> Result<(&'v str, &'v str), Stop>
-    ensures ok { IfOk result (λ v. IsTaken (braced (variables_of variables.now.texts) (name_len text.now) text.now) v.0.now text.now v.1.now 2) }
-    ensures err { IfErr result (λ stop. IsStop (braced (variables_of variables.now.texts) (name_len text.now) text.now) stop) }
+    ensures ok { IfOk result (λ v. IsTaken (braced (variables_of variables.now) (name_len text.now) text.now) v.0.now text.now v.1.now 2) }
+    ensures err { IfErr result (λ stop. IsStop (braced (variables_of variables.now) (name_len text.now) text.now) stop) }
 {
     let n = name_len(text.as_bytes());
     if n == 0 {
@@ -88,8 +88,8 @@ fn braced<'v>(variables: &'v Variables, text: &'v str) -> Result<(&'v str, &'v s
 
 /// The variable behind a `$`: its text, and the text behind it.
 pub fn variable<'v>(variables: &'v Variables, text: &'v str) -> Result<(&'v str, &'v str), Stop>
-    ensures ok { IfOk result (λ v. IsTaken (variable (variables_of variables.now.texts) text.now) v.0.now text.now v.1.now 1) }
-    ensures err { IfErr result (λ stop. IsStop (variable (variables_of variables.now.texts) text.now) stop) }
+    ensures ok { IfOk result (λ v. IsTaken (variable (variables_of variables.now) text.now) v.0.now text.now v.1.now 1) }
+    ensures err { IfErr result (λ stop. IsStop (variable (variables_of variables.now) text.now) stop) }
 {
     if begins(b'{', text) {
         braced(variables, cut(text, 1).1)

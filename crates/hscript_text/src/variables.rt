@@ -18,7 +18,7 @@ pub struct Variables {
 
 impl Variables {
     pub fn new(alloc: Global) -> Variables
-        ensures { variables_of result.texts ≡ no_variables }
+        ensures { variables_of result ≡ no_variables }
     {
         Variables {
             texts: BTreeMap::new(alloc),
@@ -27,14 +27,14 @@ impl Variables {
     }
 
     pub fn get(&self, name: &str) -> Option<&Word>
-        ensures { option_copied result ≡ variables_of self.now.texts name.now }
+        ensures { option_copied result ≡ variables_of self.now name.now }
     {
         self.texts.get(name)
     }
 
     /// Sets a variable, in place of a former text of it.
     pub fn set(&mut self, name: &str, text: Word) -> Result<(), Stop>
-        ensures { OnOk result (variables_of self.new.texts ≡ with_variable (variables_of self.old.texts) name.now text) }
+        ensures { OnOk result (variables_of self.new ≡ with_variable (variables_of self.old) name.now text) }
     {
         let name = String::from_str(self.alloc, name)?;
         self.texts.insert(name, text)?;

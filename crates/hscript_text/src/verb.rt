@@ -1,6 +1,7 @@
 // What commands are called, and what begins between them.
 ghost use Rattle.std.specs.Prelude.{◌≡◌};
-ghost use Rattle.sop_model.specs.Geometry.{is_name};
+ghost use Rattle.std.specs.List.{list_all};
+ghost use Rattle.sop_model.specs.Geometry.{continues_name, is_name};
 ghost use Rattle.hscript_text.specs.Effects.{verb_of};
 ghost use Rattle.hscript_text.specs.Script.{start_of};
 
@@ -52,12 +53,18 @@ pub fn start_of(b: u8) -> Start
     }
 }
 
+fn continues_names(text: &[u8]) -> bool
+    ensures { result ≡ list_all continues_name text.now }
+{
+    text.iter().all(|b| continues_name(*b))
+}
+
 /// Whether a text is a name: a letter or `_`, then letters, digits or `_`, 1 to 64 bytes.
 pub fn is_name(text: &[u8]) -> bool
     ensures { result ≡ is_name text.now }
 {
     match text {
-        [b, rest @ ..] => starts_name(*b) && rest.iter().all(|b| continues_name(*b)) && rest.len() <= 63,
+        [b, rest @ ..] => starts_name(*b) && continues_names(rest) && rest.len() <= 63,
         [] => false,
     }
 }

@@ -19,9 +19,9 @@ use std::alloc::Global;
 fn bare<'a>(alloc: Global, variables: &Variables, text: &'a str) -> Result<(Word, &'a str), Stop>
     requires some { 0 < length text.now }
     requires begins { opening_of (slice_index text.now 0) ≡ opening.Word style.Bare }
-    ensures ok { IfOk result (λ read. IsRead (bare (variables_of variables.now.texts) text.now) read.0 text.now read.1.now 0) }
+    ensures ok { IfOk result (λ read. IsRead (bare (variables_of variables.now) text.now) read.0 text.now read.1.now 0) }
     ensures utf8 { IfOk result (λ read. IsUtf8 read.1.now) }
-    ensures err { IfErr result (λ stop. IsStop (bare (variables_of variables.now.texts) text.now) stop) }
+    ensures err { IfErr result (λ stop. IsStop (bare (variables_of variables.now) text.now) stop) }
 {
     let (body, rest) = cut(text, bare_len(text.as_bytes()));
     match word_of(alloc, Style::Bare, variables, body) {
@@ -34,9 +34,9 @@ fn bare<'a>(alloc: Global, variables: &Variables, text: &'a str) -> Result<(Word
 /// A quoted word by the text behind its opening quote and the place of the closing one there, and the text behind it.
 fn quoted<'a>(alloc: Global, style: Style, variables: &Variables, end: Option<usize>, text: &'a str) -> Result<(Word, &'a str), Stop>
     requires { IsEnd text.now end }
-    ensures ok { IfOk result (λ read. IsRead (quoted style (variables_of variables.now.texts) end text.now) read.0 text.now read.1.now 1) }
+    ensures ok { IfOk result (λ read. IsRead (quoted style (variables_of variables.now) end text.now) read.0 text.now read.1.now 1) }
     ensures utf8 { IfOk result (λ read. IsUtf8 read.1.now) }
-    ensures err { IfErr result (λ stop. IsStop (quoted style (variables_of variables.now.texts) end text.now) stop) }
+    ensures err { IfErr result (λ stop. IsStop (quoted style (variables_of variables.now) end text.now) stop) }
 {
     let Some(n) = end else {
         return Err(Stop::Refused(ScriptKind::Quote));
@@ -54,9 +54,9 @@ fn quoted<'a>(alloc: Global, style: Style, variables: &Variables, end: Option<us
 fn read_word<'a>(alloc: Global, style: Style, variables: &Variables, text: &'a str) -> Result<(Word, &'a str), Stop>
     requires some { 0 < length text.now }
     requires begins { opening_of (slice_index text.now 0) ≡ opening.Word style }
-    ensures ok { IfOk result (λ read. IsRead (first_word style (variables_of variables.now.texts) text.now) read.0 text.now read.1.now 0) }
+    ensures ok { IfOk result (λ read. IsRead (first_word style (variables_of variables.now) text.now) read.0 text.now read.1.now 0) }
     ensures utf8 { IfOk result (λ read. IsUtf8 read.1.now) }
-    ensures err { IfErr result (λ stop. IsStop (first_word style (variables_of variables.now.texts) text.now) stop) }
+    ensures err { IfErr result (λ stop. IsStop (first_word style (variables_of variables.now) text.now) stop) }
 {
     match style {
         Style::Bare => bare(alloc, variables, text),
@@ -73,9 +73,9 @@ fn read_word<'a>(alloc: Global, style: Style, variables: &Variables, text: &'a s
 
 /// The words of the command that a text begins with, and the text behind its line.
 pub fn read_command<'a>(alloc: Global, variables: &Variables, text: &'a str) -> Result<(Vec<Word>, &'a str), Stop>
-    ensures ok { IfOk result (λ read. command_of (variables_of variables.now.texts) text.now ≡ Ok (read.0.items, read.1.now)) }
+    ensures ok { IfOk result (λ read. command_of (variables_of variables.now) text.now ≡ Ok (read.0.items, read.1.now)) }
     ensures rest { IfOk result (λ read. IsRest text.now read.1.now) }
-    ensures err { IfErr result (λ stop. IsStop (command_of (variables_of variables.now.texts) text.now) stop) }
+    ensures err { IfErr result (λ stop. IsStop (command_of (variables_of variables.now) text.now) stop) }
 {
     let mut words = Vec::new(alloc);
     let mut rest = text;

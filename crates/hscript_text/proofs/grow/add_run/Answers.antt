@@ -12,10 +12,10 @@ cut-requires c = behind_run c.args.style c.args.text.now c.plain_len-n.result (c
 
 pub returns-in-Ok-clause-ok : goal.returns-in-Ok-clause-ok
 returns-in-Ok-clause-ok c =
-    run_added c.args.style (variables_of c.args.variables.now.texts) c.args.word.now c.add.new.self c.args.text.now c.cut.result.0.now c.cut.result.1.now c.plain_len-n.result
+    run_added c.args.style (variables_of c.args.variables.now) c.args.word.now c.add.new.self c.args.text.now c.cut.result.0.now c.cut.result.1.now c.plain_len-n.result
     (c.plain_len-n.ensures ∙ ap (prefix_len (is_plain c.args.style)) c.as_bytes.ensures.value) c.cut.ensures.front c.cut.ensures.rest c.in-Ok.ensures
 
 pub returns-in-Err-clause-err : goal.returns-in-Err-clause-err
 returns-in-Err-clause-err c =
-    run_not_added c.args.style (variables_of c.args.variables.now.texts) c.args.word.now c.add.new.self c.args.text.now c.cut.result.0.now c.plain_len-n.result c.in-Err.stop
+    run_not_added c.args.style (variables_of c.args.variables.now) c.args.word.now c.add.new.self c.args.text.now c.cut.result.0.now c.plain_len-n.result c.in-Err.stop
     (c.plain_len-n.ensures ∙ ap (prefix_len (is_plain c.args.style)) c.as_bytes.ensures.value) c.cut.ensures.front c.in-Err.ensures

@@ -7,7 +7,7 @@ use Rattle.hscript_text.proofs.grow.word_of.Given as goal
 
 -- says that each `&str` the loop changes is text: keep it, and add clauses with ×
 abbrev pub invariant-loop-rest : goal.invariant-loop-rest
-invariant-loop-rest l = shadow (Utf8 l.rest) × (grown l.style (variables_of l.variables.texts) l.word l.rest ≡ word_of l.style (variables_of l.variables.texts) l.text)
+invariant-loop-rest l = shadow (Utf8 l.rest) × (grown l.style (variables_of l.variables) l.word l.rest ≡ word_of l.style (variables_of l.variables) l.text)
 
 abbrev pub decreases-loop-rest : goal.decreases-loop-rest
 decreases-loop-rest l = length l.rest

@@ -11,11 +11,11 @@ cut-requires c = behind_begins 123 c.args.text.now (omega arith) c.utf8.text (sy
 
 pub returns-then-begins-clause-ok : goal.returns-then-begins-clause-ok
 returns-then-begins-clause-ok c =
-    IfOk-weaker c.braced.result _ _ (λ v. braced_variable (variables_of c.args.variables.now.texts) c.args.text.now c.cut.result.1.now v.0.now v.1.now (sym c.begins.ensures ∙ c.if-begins.true) c.cut.ensures.rest)
+    IfOk-weaker c.braced.result _ _ (λ v. braced_variable (variables_of c.args.variables.now) c.args.text.now c.cut.result.1.now v.0.now v.1.now (sym c.begins.ensures ∙ c.if-begins.true) c.cut.ensures.rest)
     c.braced.ensures.ok
 
 pub returns-then-begins-clause-err : goal.returns-then-begins-clause-err
 returns-then-begins-clause-err c =
-    let same : braced (variables_of c.args.variables.now.texts) (name_len c.cut.result.1.now) c.cut.result.1.now ≡ variable (variables_of c.args.variables.now.texts) c.args.text.now =
-        ap (λ t. braced (variables_of c.args.variables.now.texts) (name_len t) t) c.cut.ensures.rest ∙ sym (variable_braced (variables_of c.args.variables.now.texts) c.args.text.now (sym c.begins.ensures ∙ c.if-begins.true)) in
+    let same : braced (variables_of c.args.variables.now) (name_len c.cut.result.1.now) c.cut.result.1.now ≡ variable (variables_of c.args.variables.now) c.args.text.now =
+        ap (λ t. braced (variables_of c.args.variables.now) (name_len t) t) c.cut.ensures.rest ∙ sym (variable_braced (variables_of c.args.variables.now) c.args.text.now (sym c.begins.ensures ∙ c.if-begins.true)) in
     subst (λ p. IfErr c.braced.result (λ stop. IsStop p stop)) same c.braced.ensures.err

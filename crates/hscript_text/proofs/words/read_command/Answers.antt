@@ -22,14 +22,14 @@ pub returns-in-Err-clause-err : goal.returns-in-Err-clause-err
 returns-in-Err-clause-err c =
     let at : opening_of (get_or c.words.rest.now 0 0) ≡ opening.Word c.in-Word.style = ap (λ t. opening_of (get_or t 0 0)) (sym c.as_bytes.ensures.value) ∙ sym c.opening_of.ensures ∙ c.in-Word.is in
     let some : 0 < length c.words.rest.now = omega arith in
-    subst (λ m. IsStop m c.in-Err.stop) c.words.invariant.1 (joined_refused (variables_of c.args.variables.now.texts) c.words.words.items c.words.rest.now c.in-Word.style c.in-Err.stop some at c.in-Err.ensures.err)
+    subst (λ m. IsStop m c.in-Err.stop) c.words.invariant.1 (joined_refused (variables_of c.args.variables.now) c.words.words.items c.words.rest.now c.in-Word.style c.in-Err.stop some at c.in-Err.ensures.err)
 
 pub words-preserved : goal.words-preserved
 words-preserved c =
     let at : opening_of (get_or c.words.rest.now 0 0) ≡ opening.Word c.in-Word.style = ap (λ t. opening_of (get_or t 0 0)) (sym c.as_bytes.ensures.value) ∙ sym c.opening_of.ensures ∙ c.in-Word.is in
     let some : 0 < length c.words.rest.now = omega arith in
     let read = c.in-Ok.ensures.ok in
-    let next = joined_word (variables_of c.args.variables.now.texts) c.words.words.items c.words.rest.now c.in-Ok.read.1.now c.in-Ok.read.0 c.in-Word.style some at read in
+    let next = joined_word (variables_of c.args.variables.now) c.words.words.items c.words.rest.now c.in-Ok.read.1.now c.in-Ok.read.0 c.in-Word.style some at read in
     (c.in-Ok.ensures.utf8,
-    ap (λ w. joined (variables_of c.args.variables.now.texts) w c.in-Ok.read.1.now) c.in-Ok-push.ensures.items ∙ sym next ∙ c.words.invariant.1,
+    ap (λ w. joined (variables_of c.args.variables.now) w c.in-Ok.read.1.now) c.in-Ok-push.ensures.items ∙ sym next ∙ c.words.invariant.1,
     rest_further c.args.text.now c.words.rest.now c.in-Ok.read.1.now read.bytes read.inside read.leaves c.words.invariant.2)
