@@ -12,6 +12,10 @@ use Rattle.hscript_text.specs.declared.variables.Variables as texts
 use Rattle.hscript_text.specs.declared.reader.Reader.{Reader}
 use Rattle.hscript_text.specs.Pieces.{Variables, Piece, Word, behind, word_within}
 use Rattle.hscript_text.specs.Effects.{State, kind_of}
+use Rattle.hscript_text.specs.Script.{Outcome}
+use Rattle.hscript_text.specs.declared.script.Script.{Script}
+use Rattle.hscript_text.specs.declared.script.ScriptEnd.{ScriptEnd}
+use Rattle.hscript_text.specs.declared.script.ScriptEnd.TheVariants as script_end
 use Rattle.hscript_text.specs.Words.{Taken, Command, with_words, command_from}
 
 -- The variables of the reader.
@@ -81,3 +85,18 @@ IsEnd text (Some n) = (n < length text) × (slice_index text n < 128)
 -- The state of the reader.
 abbrev pub state_of : Reader → State
 state_of r = record { net = r.net; variables = variables_of r.variables; echoed = r.echoed }
+
+-- how a command that fails in a line ends a script
+abbrev pub end_of : ℕ → Stop → ScriptEnd
+end_of line (Refused kind) = script_end.Refused line kind
+end_of line Memory = script_end.Memory
+
+-- Commands may end so in a line: as refused only with the line and the kind that are meant.
+abbrev pub IsOutcome : Outcome → ℕ → Stop → Type 0
+IsOutcome meant line (Refused kind) = meant ≡ Err (line, kind)
+IsOutcome meant line Memory = Unit {0}
+
+-- A script may end so: as refused only with the line and the kind that are meant. `Memory` may always come.
+abbrev pub IsRefusal : Result Script (ℕ × ScriptKind) → ScriptEnd → Type 0
+IsRefusal meant (script_end.Refused line kind) = meant ≡ Err (line, kind)
+IsRefusal meant script_end.Memory = Unit {0}

@@ -17,4 +17,4 @@ mod word;
 mod words;
 
 pub use kind::ScriptKind;
-pub use script::Script;
+pub use script::{Script, ScriptEnd, read_script};

@@ -112,7 +112,8 @@ impl Reader {
                 if !is_name(name.as_str().as_bytes()) {
                     return Err(Stop::Refused(ScriptKind::BadName));
                 }
-                self.variables.set(name.as_str(), text)
+                self.variables.set(name.as_str(), text)?;
+                Ok(())
             }
             _ => Err(Stop::Refused(ScriptKind::BadArgs)),
         }

@@ -4,9 +4,8 @@ ghost use Rattle.std.specs.Option.{option_copied};
 ghost use Rattle.hscript_text.specs.Pieces.{no_variables, with_variable};
 ghost use Rattle.hscript_text.specs.Reading.{variables_of};
 
-use crate::kind::Stop;
 use crate::word::Word;
-use std::alloc::Global;
+use std::alloc::{AllocError, Global};
 use std::collections::BTreeMap;
 
 /// The text of each variable by its name.
@@ -33,7 +32,7 @@ impl Variables {
     }
 
     /// Sets a variable, in place of a former text of it.
-    pub fn set(&mut self, name: &str, text: Word) -> Result<(), Stop>
+    pub fn set(&mut self, name: &str, text: Word) -> Result<(), AllocError>
         ensures { OnOk result (variables_of self.new ≡ with_variable (variables_of self.old) name.now text) }
     {
         let name = String::from_str(self.alloc, name)?;
