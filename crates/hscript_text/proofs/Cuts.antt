@@ -1,7 +1,7 @@
 -- Where a text may be cut: beside an ASCII byte.
 use Rattle.std.proofs.Common.{◌≡◌, ℕ, zero, suc, ◌+◌, ◌-◌, ◌≤◌, ◌<◌, List, [], ◌∷◌, length, drop, refl, ap, sym, subst, ◌∙◌, arith, Bool, true, false, not, ◌&&◌, ◌||◌, ◌==◌, nat_le, get_or, min, cond, inl, inr}
 use Rattle.std.proofs.lemmas.Grind.{common_steps}
-use Rattle.std.proofs.lemmas.Bool.{cases_lt}
+use Rattle.std.proofs.lemmas.Bool.{cases_lt, ne_eqb}
 use Rattle.std.proofs.lemmas.Bool.Decides.{Decides-eqb}
 use Rattle.std.proofs.lemmas.List.{get_or-drop, length-drop}
 use Rattle.std.proofs.lemmas.List.Sums.{prefix_len_passes, prefix_len_stops, prefix_len-le-length}
@@ -15,6 +15,9 @@ use Rattle.hscript_text.specs.declared.style.Style.{Style}
 use Rattle.hscript_text.specs.declared.style.Style.TheVariants.{Bare, Single, Double}
 use Rattle.hscript_text.specs.Pieces.{name_len, begins, escape_of, is_plain}
 use Rattle.hscript_text.specs.Words.{is_bare}
+use Rattle.hscript_text.specs.declared.verb.Start.{Start}
+use Rattle.hscript_text.specs.declared.verb.Start.TheVariants.{Between, Comment, Command}
+use Rattle.hscript_text.specs.Script.{is_line_end, start_of}
 
 continues_ascii : (b : ℕ) → continues_name b ≡ true → b < 128
 continues_ascii b h = grind (arith, common_steps)
@@ -94,3 +97,26 @@ behind_end text after n utf8 h e =
 
 pub behind_mark : (style : Style) (text : List ℕ) (b : ℕ) → IsUtf8 text → 0 < length text → b ≡ get_or text 0 0 → is_plain style b ≡ false → IsCharBoundary text 1
 behind_mark style text b utf8 some at h = behind_byte text utf8 some (subst (λ c. c < 128) at (mark_small style b h))
+
+line_end_small : (b : ℕ) → not (is_line_end b) ≡ false → b < 128
+line_end_small b h = grind (arith, common_steps)
+
+-- at the end of a line
+pub behind_line : (text : List ℕ) (n : ℕ) → n ≡ prefix_len (λ b. not (is_line_end b)) text → IsCharBoundary text n
+behind_line = behind_passing (λ b. not (is_line_end b)) line_end_small
+
+between_small : (b : ℕ) → start_of b ≡ Between → b < 128
+between_small b e = elim (cases_lt b 128) [ inl h ↦ h | inr h ↦ absurd (large b h e) ]
+  where
+    large : (b : ℕ) → 128 ≤ b → start_of b ≡ Between → ⊥
+    large b h e =
+        let space : (b == 32) ≡ false = ne_eqb b 32 (λ e. omega arith) in
+        let tab : (b == 9) ≡ false = ne_eqb b 9 (λ e. omega arith) in
+        let return : (b == 13) ≡ false = ne_eqb b 13 (λ e. omega arith) in
+        let end : (b == 10) ≡ false = ne_eqb b 10 (λ e. omega arith) in
+        let mark : (b == 35) ≡ false = ne_eqb b 35 (λ e. omega arith) in
+        let command : start_of b ≡ Command = rw (space, tab, return, end, mark) refl in
+        cc
+
+pub behind_between : (text : List ℕ) → IsUtf8 text → 0 < length text → start_of (get_or text 0 0) ≡ Between → IsCharBoundary text 1
+behind_between text utf8 some e = behind_byte text utf8 some (between_small _ e)

@@ -5,3 +5,4 @@ pub mod Closings
 pub mod Commands
 pub mod Openings
 pub mod Echoing
+pub mod Scripts

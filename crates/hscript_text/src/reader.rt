@@ -142,6 +142,7 @@ impl Reader {
     pub fn read<'a>(&mut self, text: &'a str) -> Result<&'a str, Stop>
         ensures ok { IfOk result (λ rest. carried_out (state_of self.old) (command_of (variables_of self.old.variables) text.now) ≡ Ok (state_of self.new, rest.now)) }
         ensures rest { IfOk result (λ rest. IsRest text.now rest.now) }
+        ensures further { IfOk result (λ rest. 0 < length text.now → length rest.now < length text.now) }
         ensures err { IfErr result (λ stop. IsStop (carried_out (state_of self.old) (command_of (variables_of self.old.variables) text.now)) stop) }
     {
         match read_command(self.alloc, &self.variables, text) {

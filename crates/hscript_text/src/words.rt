@@ -75,6 +75,7 @@ fn read_word<'a>(alloc: Global, style: Style, variables: &Variables, text: &'a s
 pub fn read_command<'a>(alloc: Global, variables: &Variables, text: &'a str) -> Result<(Vec<Word>, &'a str), Stop>
     ensures ok { IfOk result (λ read. command_of (variables_of variables.now) text.now ≡ Ok (read.0.items, read.1.now)) }
     ensures rest { IfOk result (λ read. IsRest text.now read.1.now) }
+    ensures further { IfOk result (λ read. 0 < length text.now → length read.1.now < length text.now) }
     ensures err { IfErr result (λ stop. IsStop (command_of (variables_of variables.now) text.now) stop) }
 {
     let mut words = Vec::new(alloc);
