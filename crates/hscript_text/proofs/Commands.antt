@@ -1,15 +1,14 @@
 -- A command's words, read one after the other.
-use Rattle.std.proofs.Common.{◌≡◌, ℕ, zero, suc, ◌+◌, ◌-◌, ◌≤◌, ◌<◌, List, [], ◌∷◌, ◌++◌, length, take, drop, refl, ap, sym, subst, ◌∙◌, arith, Bool, true, false, ◌==◌, get_or, append_assoc, length-drop}
+use Rattle.std.proofs.Common.{◌≡◌, ℕ, zero, suc, ◌+◌, ◌-◌, ◌≤◌, ◌<◌, List, [], ◌∷◌, ◌++◌, length, drop, refl, ap, sym, ◌∙◌, arith, get_or, append_assoc, length-drop}
 use Rattle.std.proofs.lemmas.List.{drop-drop}
-use Rattle.std.specs.Prelude.{Option, Some, None, Result, Ok, Err}
-use Rattle.hscript_text.specs.declared.kind.ScriptKind.{ScriptKind}
+use Rattle.std.specs.Prelude.{Ok, Err}
 use Rattle.hscript_text.specs.declared.kind.Stop.{Stop}
 use Rattle.hscript_text.specs.declared.kind.Stop.TheVariants.{Refused, Memory}
 use Rattle.hscript_text.specs.declared.style.Style.{Style}
 use Rattle.hscript_text.specs.declared.style.Opening.{Opening}
 use Rattle.hscript_text.specs.declared.style.Opening.TheVariants as opening
 use Rattle.hscript_text.specs.Pieces.{Variables}
-use Rattle.hscript_text.specs.Words.{Taken, Command, opening_of, first_word, with_words, with_word, command_at, command_from, command_of}
+use Rattle.hscript_text.specs.Words.{Command, opening_of, first_word, with_words, with_word, command_at, command_from}
 use Rattle.hscript_text.specs.Reading.{IsRest, IsRead, IsStop, joined}
 
 pub command-skip : (variables : Variables) (k : ℕ) (text : List ℕ) → command_from variables k text ≡ command_from variables 0 (drop k text)

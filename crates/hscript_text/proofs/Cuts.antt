@@ -1,5 +1,5 @@
 -- Where a text may be cut: beside an ASCII byte.
-use Rattle.std.proofs.Common.{◌≡◌, ℕ, zero, suc, ◌+◌, ◌-◌, ◌≤◌, ◌<◌, List, [], ◌∷◌, length, drop, refl, ap, sym, subst, ◌∙◌, arith, Bool, true, false, not, ◌&&◌, ◌||◌, ◌==◌, nat_le, get_or, min, cond, inl, inr}
+use Rattle.std.proofs.Common.{◌≡◌, ℕ, ◌+◌, ◌-◌, ◌≤◌, ◌<◌, List, [], ◌∷◌, length, drop, refl, ap, sym, subst, ◌∙◌, arith, Bool, true, false, not, ◌==◌, get_or, min, cond, inl, inr}
 use Rattle.std.proofs.lemmas.Grind.{common_steps}
 use Rattle.std.proofs.lemmas.Bool.{cases_lt, ne_eqb}
 use Rattle.std.proofs.lemmas.Bool.Decides.{Decides-eqb}
@@ -15,8 +15,7 @@ use Rattle.hscript_text.specs.declared.style.Style.{Style}
 use Rattle.hscript_text.specs.declared.style.Style.TheVariants.{Bare, Single, Double}
 use Rattle.hscript_text.specs.Pieces.{name_len, begins, escape_of, is_plain}
 use Rattle.hscript_text.specs.Words.{is_bare}
-use Rattle.hscript_text.specs.declared.verb.Start.{Start}
-use Rattle.hscript_text.specs.declared.verb.Start.TheVariants.{Between, Comment, Command}
+use Rattle.hscript_text.specs.declared.verb.Start.TheVariants.{Between, Command}
 use Rattle.hscript_text.specs.Script.{is_line_end, start_of}
 
 continues_ascii : (b : ℕ) → continues_name b ≡ true → b < 128

@@ -1,15 +1,15 @@
 -- A word that grows by its pieces.
-use Rattle.std.proofs.Common.{◌≡◌, ℕ, zero, suc, ◌+◌, ◌-◌, ◌≤◌, ◌<◌, List, [], ◌∷◌, ◌++◌, length, take, drop, refl, ap, sym, subst, ◌∙◌, arith, Bool, true, false, cond, nat_le, append_assoc, length-append}
+use Rattle.std.proofs.Common.{◌≡◌, ℕ, zero, suc, ◌+◌, ◌-◌, ◌≤◌, ◌<◌, List, [], ◌∷◌, ◌++◌, length, take, drop, refl, ap, sym, ◌∙◌, arith, Bool, true, false, cond, nat_le, append_assoc, length-append}
 use Rattle.std.proofs.lemmas.List.{length-take-le}
 use Rattle.std.proofs.lemmas.List.Sums.{prefix_len-le-length}
-use Rattle.std.specs.Prelude.{Result, Ok, Err}
+use Rattle.std.specs.Prelude.{Ok, Err}
 use Rattle.std.specs.List.{prefix_len}
 use Rattle.hscript_text.specs.declared.kind.ScriptKind.{ScriptKind}
 use Rattle.hscript_text.specs.declared.kind.ScriptKind.TheVariants.{LongWord}
 use Rattle.hscript_text.specs.declared.style.Style.{Style}
 use Rattle.hscript_text.specs.declared.kind.Stop.{Stop}
 use Rattle.hscript_text.specs.declared.kind.Stop.TheVariants.{Refused, Memory}
-use Rattle.hscript_text.specs.Pieces.{Variables, Piece, Word, piece, special, is_plain, behind, with_piece, word_within}
+use Rattle.hscript_text.specs.Pieces.{Variables, Word, piece, special, is_plain, behind, with_piece, word_within}
 use Rattle.hscript_text.specs.Reading.{grown, Adds, IsStop, IsTaken}
 
 pub within-skip : (style : Style) (variables : Variables) (room k : ℕ) (text : List ℕ) → word_within style variables room k text ≡ word_within style variables room 0 (drop k text)

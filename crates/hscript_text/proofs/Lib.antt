@@ -6,3 +6,5 @@ pub mod Commands
 pub mod Openings
 pub mod Echoing
 pub mod Scripts
+pub mod Examples
+pub mod NoMemory

@@ -1,10 +1,9 @@
 -- What a byte begins between words.
-use Rattle.std.proofs.Common.{◌≡◌, ℕ, ◌+◌, ◌-◌, ◌≤◌, ◌<◌, List, [], ◌∷◌, length, drop, refl, ap, sym, subst, ◌∙◌, arith, Bool, true, false, ◌==◌, get_or, inl, inr}
+use Rattle.std.proofs.Common.{◌≡◌, ℕ, ◌+◌, ◌-◌, ◌≤◌, ◌<◌, List, length, drop, refl, ap, sym, ◌∙◌, arith, false, ◌==◌, get_or, inl, inr}
 use Rattle.std.proofs.lemmas.Bool.{cases_lt, ne_eqb}
 use Rattle.std.proofs.lemmas.List.{drop-drop, length-drop}
-use Rattle.std.specs.Prelude.{Option, Result, Ok, position}
+use Rattle.std.specs.Prelude.{Option, Ok, position}
 use Rattle.std.specs.Str.{IsUtf8, IsCharBoundary}
-use Rattle.hscript_text.specs.declared.kind.ScriptKind.{ScriptKind}
 use Rattle.hscript_text.specs.declared.style.Style.{Style}
 use Rattle.hscript_text.specs.declared.style.Style.TheVariants.{Bare, Single, Double}
 use Rattle.hscript_text.specs.declared.style.Opening.{Opening}

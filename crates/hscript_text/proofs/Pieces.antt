@@ -1,8 +1,8 @@
 -- Escapes and variables as the reader finds them.
-use Rattle.std.proofs.Common.{◌≡◌, ℕ, ◌+◌, ◌<◌, List, [], ◌∷◌, length, take, drop, refl, ap, sym, subst, ◌∙◌, arith, Bool, true, false, ◌==◌, Some}
+use Rattle.std.proofs.Common.{◌≡◌, ℕ, ◌+◌, List, take, drop, refl, ap, sym, subst, ◌∙◌, arith, true, false, ◌==◌, Some}
 use Rattle.std.proofs.lemmas.Bool.{ne_eqb}
 use Rattle.std.proofs.lemmas.List.{drop-drop}
-use Rattle.hscript_text.specs.Pieces.{Variables, name_len, begins, named, braced, variable}
+use Rattle.hscript_text.specs.Pieces.{Variables, name_len, begins, braced, variable}
 use Rattle.hscript_text.specs.Reading.{IsTaken}
 
 pub braced_taken : (variables : Variables) (text word after rest : List ℕ) (n : ℕ) → n ≡ name_len text → (n ≡ 0 → ⊥) → begins 125 after ≡ true → after ≡ drop n text → rest ≡ drop 1 after

@@ -1,21 +1,20 @@
 -- A script, read a piece at a time.
-use Rattle.std.proofs.Common.{◌≡◌, ℕ, zero, suc, ◌+◌, ◌-◌, ◌≤◌, ◌<◌, List, [], ◌∷◌, ◌++◌, length, take, drop, refl, ap, sym, subst, ◌∙◌, arith, Bool, true, false, cond, not, ◌||◌, ◌==◌, get_or}
+use Rattle.std.proofs.Common.{◌≡◌, ℕ, zero, suc, ◌+◌, ◌-◌, ◌≤◌, ◌<◌, List, [], ◌∷◌, length, take, drop, refl, ap, sym, ◌∙◌, arith, Bool, true, false, cond, not, ◌||◌, ◌==◌, get_or}
 use denote.Bor.{Bor}
 use Rattle.std.specs.Prelude.{Result, Ok, Err, IfOk, if◌then◌else◌}
 use Rattle.std.specs.List.{prefix_len, filter}
 use Rattle.std.specs.Str.{IsUtf8, is_utf8}
-use Rattle.std.proofs.lemmas.List.{length-drop, drop-drop}
+use Rattle.std.proofs.lemmas.List.{length-drop}
 use Rattle.std.proofs.lemmas.List.Sums.{prefix_len-le-length}
-use Rattle.std.proofs.lemmas.Str.{IsUtf8-from_is_utf8, is_utf8-from_IsUtf8}
-use Rattle.hscript_text.specs.declared.kind.ScriptKind.{ScriptKind}
+use Rattle.std.proofs.lemmas.Str.{IsUtf8-from_is_utf8}
 use Rattle.hscript_text.specs.declared.kind.Stop.{Stop}
 use Rattle.hscript_text.specs.declared.kind.Stop.TheVariants.{Refused, Memory}
 use Rattle.hscript_text.specs.declared.verb.Start.{Start}
 use Rattle.hscript_text.specs.declared.verb.Start.TheVariants.{Between, Comment, Command}
 use Rattle.hscript_text.specs.Words.{is_blank, command_of}
 use Rattle.hscript_text.specs.Effects.{State}
-use Rattle.hscript_text.specs.Script.{is_line_end, line_ends, start_of, carried_out, with_command, script_at, script_from, line_behind, Outcome, script_made}
-use Rattle.hscript_text.specs.Reading.{IsRest, IsStop, IsOutcome, IsRefusal, end_of}
+use Rattle.hscript_text.specs.Script.{is_line_end, line_ends, start_of, carried_out, with_command, script_at, script_from, line_behind, Outcome, script_made, IsRefusal}
+use Rattle.hscript_text.specs.Reading.{IsRest, IsStop, IsOutcome, end_of}
 
 first_line : (b line : ℕ) (text : List ℕ) → line_behind b line + line_ends text ≡ line + line_ends (b ∷ text)
 first_line b line text = elim (is_line_end b) as (λ v. cond v (line + 1) line + line_ends text ≡ line + length (cond v (b ∷ filter is_line_end text) (filter is_line_end text))) [ true ↦ omega arith | false ↦ refl ]

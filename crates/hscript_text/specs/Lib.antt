@@ -1,3 +1,4 @@
+pub mod KindNames
 pub mod Pieces
 pub mod Words
 pub mod Effects

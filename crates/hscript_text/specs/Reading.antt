@@ -13,7 +13,6 @@ use Rattle.hscript_text.specs.declared.reader.Reader.{Reader}
 use Rattle.hscript_text.specs.Pieces.{Variables, Piece, Word, behind, word_within}
 use Rattle.hscript_text.specs.Effects.{State, kind_of}
 use Rattle.hscript_text.specs.Script.{Outcome}
-use Rattle.hscript_text.specs.declared.script.Script.{Script}
 use Rattle.hscript_text.specs.declared.script.ScriptEnd.{ScriptEnd}
 use Rattle.hscript_text.specs.declared.script.ScriptEnd.TheVariants as script_end
 use Rattle.hscript_text.specs.Words.{Taken, Command, with_words, command_from}
@@ -95,8 +94,3 @@ end_of line Memory = script_end.Memory
 abbrev pub IsOutcome : Outcome → ℕ → Stop → Type 0
 IsOutcome meant line (Refused kind) = meant ≡ Err (line, kind)
 IsOutcome meant line Memory = Unit {0}
-
--- A script may end so: as refused only with the line and the kind that are meant. `Memory` may always come.
-abbrev pub IsRefusal : Result Script (ℕ × ScriptKind) → ScriptEnd → Type 0
-IsRefusal meant (script_end.Refused line kind) = meant ≡ Err (line, kind)
-IsRefusal meant script_end.Memory = Unit {0}

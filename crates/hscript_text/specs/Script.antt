@@ -1,13 +1,15 @@
 -- What a command file means: the network and the echoed text, or the first refused command's line and why it is refused.
 --
 -- Lines end at LF and are counted from 1. A command's line is the one where its first word begins.
-use Rattle.std.specs.Prelude.{ℕ, zero, suc, ◌+◌, ◌-◌, Bool, true, false, if◌then◌else◌, ◌||◌, not, ◌==◌, List, [], ◌∷◌, length, take, Result, Ok, Err}
+use Rattle.std.specs.Prelude.{◌≡◌, ℕ, zero, suc, ◌+◌, ◌-◌, Bool, true, false, if◌then◌else◌, ◌||◌, not, ◌==◌, List, [], ◌∷◌, length, take, Result, Ok, Err}
 use Rattle.std.specs.List.{prefix_len, filter}
 use Rattle.std.specs.Str.{is_utf8}
 use Rattle.std.specs.Str.Lossy.{utf8_valid_len}
 use Rattle.hscript_text.specs.declared.kind.ScriptKind.{ScriptKind}
 use Rattle.hscript_text.specs.declared.kind.ScriptKind.TheVariants.{BadBytes}
 use Rattle.hscript_text.specs.declared.script.Script.{Script}
+use Rattle.hscript_text.specs.declared.script.ScriptEnd.{ScriptEnd}
+use Rattle.hscript_text.specs.declared.script.ScriptEnd.TheVariants as script_end
 use Rattle.hscript_text.specs.declared.verb.Start.{Start}
 use Rattle.hscript_text.specs.declared.verb.Start.TheVariants.{Between, Comment, Command}
 use Rattle.hscript_text.specs.Words as words
@@ -74,3 +76,8 @@ script_if false bytes = Err (line_of bytes (utf8_valid_len bytes), BadBytes)
 
 abbrev pub script_of : List ℕ → Result Script (ℕ × ScriptKind)
 script_of bytes = script_if (is_utf8 bytes) bytes
+
+-- A script may end so: as refused only with the line and the kind that are meant. `Memory` may always come.
+abbrev pub IsRefusal : Result Script (ℕ × ScriptKind) → ScriptEnd → Type 0
+IsRefusal meant (script_end.Refused line kind) = meant ≡ Err (line, kind)
+IsRefusal meant script_end.Memory = Unit {0}

@@ -31,7 +31,12 @@ fn special<'a>(variables: &'a Variables, b: u8, text: &'a str) -> Result<(&'a st
 }
 
 /// Adds the plain bytes that a text begins with, and answers the text behind them.
-fn add_run<'a>(word: &mut Word, style: Style, variables: &Variables, text: &'a str) -> Result<&'a str, Stop>
+fn add_run<'a>(
+    word: &mut Word,
+    style: Style,
+    variables: &Variables,
+    text: &'a str,
+) -> Result<&'a str, Stop>
     ensures ok { IfOk result (λ rest. grown style (variables_of variables.now) word.old text.now ≡ grown style (variables_of variables.now) word.new rest.now) }
     ensures rest { IfOk result (λ rest. rest.now ≡ drop (prefix_len (is_plain style) text.now) text.now) }
     ensures err { IfErr result (λ stop. IsStop (grown style (variables_of variables.now) word.old text.now) stop) }
@@ -45,7 +50,13 @@ fn add_run<'a>(word: &mut Word, style: Style, variables: &Variables, text: &'a s
 }
 
 /// Adds what a byte that doesn't stand for itself gives with the text behind it, and answers the text behind both.
-fn add_special<'a>(word: &mut Word, style: Style, variables: &'a Variables, b: u8, text: &'a str) -> Result<&'a str, Stop>
+fn add_special<'a>(
+    word: &mut Word,
+    style: Style,
+    variables: &'a Variables,
+    b: u8,
+    text: &'a str,
+) -> Result<&'a str, Stop>
     requires { is_plain style b ≡ false }
     ensures ok { IfOk result (λ rest. grown style (variables_of variables.now) word.old (b ∷ text.now) ≡ grown style (variables_of variables.now) word.new rest.now) }
     ensures rest { IfOk result (λ rest. length rest.now ≤ length text.now) }
@@ -61,7 +72,12 @@ fn add_special<'a>(word: &mut Word, style: Style, variables: &'a Variables, b: u
 }
 
 /// Adds the pieces that a text begins with, at least one, and answers the text behind them.
-fn add_pieces<'a>(word: &mut Word, style: Style, variables: &'a Variables, text: &'a str) -> Result<&'a str, Stop>
+fn add_pieces<'a>(
+    word: &mut Word,
+    style: Style,
+    variables: &'a Variables,
+    text: &'a str,
+) -> Result<&'a str, Stop>
     requires some { 0 < length text.now }
     ensures ok { IfOk result (λ rest. grown style (variables_of variables.now) word.old text.now ≡ grown style (variables_of variables.now) word.new rest.now) }
     ensures rest { IfOk result (λ rest. length rest.now < length text.now) }

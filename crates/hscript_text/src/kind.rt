@@ -1,4 +1,7 @@
-use std::alloc::{AllocError, AllocFailed};
+ghost use Rattle.std.specs.Prelude.{◌≡◌};
+ghost use Rattle.hscript_text.specs.KindNames.{name_of_kind};
+
+use std::alloc::AllocError;
 
 /// Why a command file is refused.
 #[derive(Clone, Copy, Debug, PartialEq, Eq)]
@@ -35,6 +38,31 @@ pub enum ScriptKind {
     Cycle,
 }
 
+impl ScriptKind {
+    /// The kind as it is printed.
+    pub fn name(self) -> &'static str
+        ensures { result.now ≡ name_of_kind self }
+    {
+        match self {
+            ScriptKind::BadBytes => "BadBytes",
+            ScriptKind::Quote => "Quote",
+            ScriptKind::NoVar => "NoVar",
+            ScriptKind::LongWord => "LongWord",
+            ScriptKind::BadCommand => "BadCommand",
+            ScriptKind::BadArgs => "BadArgs",
+            ScriptKind::BadName => "BadName",
+            ScriptKind::NameTaken => "NameTaken",
+            ScriptKind::NoType => "NoType",
+            ScriptKind::Limit => "Limit",
+            ScriptKind::NoNode => "NoNode",
+            ScriptKind::NoParm => "NoParm",
+            ScriptKind::BadValue => "BadValue",
+            ScriptKind::BadInput => "BadInput",
+            ScriptKind::Cycle => "Cycle",
+        }
+    }
+}
+
 /// Why a command can't be read.
 #[derive(Clone, Copy, Debug, PartialEq, Eq)]
 pub enum Stop {
@@ -45,23 +73,11 @@ pub enum Stop {
 }
 
 impl From<AllocError> for Stop {
-    ghost use Rattle.std.specs.Prelude.{◌≡◌};
     ghost use Rattle.hscript_text.specs.declared.kind.Stop.TheVariants.{Memory};
 
     ghost from_gives = { λ _ stop. stop ≡ Memory };
 
     fn from(_: AllocError) -> Self {
-        Stop::Memory
-    }
-}
-
-impl<T: Drop> From<AllocFailed<T>> for Stop {
-    ghost use Rattle.std.specs.Prelude.{◌≡◌};
-    ghost use Rattle.hscript_text.specs.declared.kind.Stop.TheVariants.{Memory};
-
-    ghost from_gives = { λ _ stop. stop ≡ Memory };
-
-    fn from(_: AllocFailed<T>) -> Self {
         Stop::Memory
     }
 }

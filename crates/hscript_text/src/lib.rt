@@ -6,6 +6,7 @@ mod echoed;
 mod effects;
 mod grow;
 mod kind;
+mod law;
 mod piece;
 mod quotes;
 mod reader;
@@ -17,4 +18,8 @@ mod word;
 mod words;
 
 pub use kind::ScriptKind;
+pub use law::{no_step_wants_memory, skipped_is_dropped};
 pub use script::{Script, ScriptEnd, read_script};
+
+#[cfg(test)]
+mod tests;

@@ -73,7 +73,10 @@ impl Reader {
         let [node, index, source] = words else {
             return Err(Stop::Refused(ScriptKind::BadArgs));
         };
-        match self.net.wire(node.as_str(), index.as_str(), source.as_str()) {
+        match self
+            .net
+            .wire(node.as_str(), index.as_str(), source.as_str())
+        {
             Ok(()) => Ok(()),
             Err(end) => Err(stop_of(end)),
         }

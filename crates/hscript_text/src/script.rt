@@ -1,9 +1,9 @@
 // Whole command files.
 ghost use Rattle.std.specs.Prelude.{◌≡◌, ℕ, ◌≤◌, ◌<◌, ◌+◌, ◌-◌, ◌^◌, not, Ok, IfOk, IfErr, length, drop};
 ghost use Rattle.std.specs.List.{prefix_len};
-ghost use Rattle.hscript_text.specs.Script.{is_line_end, line_ends, script_from, script_made, script_of};
+ghost use Rattle.hscript_text.specs.Script.{is_line_end, line_ends, script_from, script_made, script_of, IsRefusal};
 ghost use Rattle.hscript_text.specs.Effects.{start};
-ghost use Rattle.hscript_text.specs.Reading.{state_of, end_of, IsRest, IsOutcome, IsRefusal};
+ghost use Rattle.hscript_text.specs.Reading.{state_of, end_of, IsRest, IsOutcome};
 
 use crate::cut::cut;
 use crate::kind::{ScriptKind, Stop};
@@ -42,7 +42,10 @@ fn end_of(line: usize, stop: Stop) -> ScriptEnd
     ensures { result ≡ end_of line stop }
 {
     match stop {
-        Stop::Refused(kind) => ScriptEnd::Refused { line: line as u32, kind },
+        Stop::Refused(kind) => ScriptEnd::Refused {
+            line: line as u32,
+            kind,
+        },
         Stop::Memory => ScriptEnd::Memory,
     }
 }

@@ -32,7 +32,13 @@ fn bare<'a>(alloc: Global, variables: &Variables, text: &'a str) -> Result<(Word
 }
 
 /// A quoted word by the text behind its opening quote and the place of the closing one there, and the text behind it.
-fn quoted<'a>(alloc: Global, style: Style, variables: &Variables, end: Option<usize>, text: &'a str) -> Result<(Word, &'a str), Stop>
+fn quoted<'a>(
+    alloc: Global,
+    style: Style,
+    variables: &Variables,
+    end: Option<usize>,
+    text: &'a str,
+) -> Result<(Word, &'a str), Stop>
     requires { IsEnd text.now end }
     ensures ok { IfOk result (λ read. IsRead (quoted style (variables_of variables.now) end text.now) read.0 text.now read.1.now 1) }
     ensures utf8 { IfOk result (λ read. IsUtf8 read.1.now) }
@@ -51,7 +57,12 @@ fn quoted<'a>(alloc: Global, style: Style, variables: &Variables, end: Option<us
 }
 
 /// The word of this style that a text begins with, and the text behind it.
-fn read_word<'a>(alloc: Global, style: Style, variables: &Variables, text: &'a str) -> Result<(Word, &'a str), Stop>
+fn read_word<'a>(
+    alloc: Global,
+    style: Style,
+    variables: &Variables,
+    text: &'a str,
+) -> Result<(Word, &'a str), Stop>
     requires some { 0 < length text.now }
     requires begins { opening_of (slice_index text.now 0) ≡ opening.Word style }
     ensures ok { IfOk result (λ read. IsRead (first_word style (variables_of variables.now) text.now) read.0 text.now read.1.now 0) }
@@ -66,13 +77,23 @@ fn read_word<'a>(alloc: Global, style: Style, variables: &Variables, text: &'a s
         }
         Style::Double => {
             let body = cut(text, 1).1;
-            quoted(alloc, style, variables, unescaped_quote(body.as_bytes()), body)
+            quoted(
+                alloc,
+                style,
+                variables,
+                unescaped_quote(body.as_bytes()),
+                body,
+            )
         }
     }
 }
 
 /// The words of the command that a text begins with, and the text behind its line.
-pub fn read_command<'a>(alloc: Global, variables: &Variables, text: &'a str) -> Result<(Vec<Word>, &'a str), Stop>
+pub fn read_command<'a>(
+    alloc: Global,
+    variables: &Variables,
+    text: &'a str,
+) -> Result<(Vec<Word>, &'a str), Stop>
     ensures ok { IfOk result (λ read. command_of (variables_of variables.now) text.now ≡ Ok (read.0.items, read.1.now)) }
     ensures rest { IfOk result (λ read. IsRest text.now read.1.now) }
     ensures further { IfOk result (λ read. 0 < length text.now → length read.1.now < length text.now) }

@@ -1,5 +1,4 @@
-use Rattle.std.proofs.Common.{subst, sym, ap, ◌∙◌, get_or}
-use Rattle.hscript_text.specs.Reading.{variables_of}
+use Rattle.std.proofs.Common.{sym, ap, ◌∙◌, get_or}
 use Rattle.hscript_text.proofs.Cuts.{behind_mark}
 use Rattle.hscript_text.proofs.grow.add_pieces.Goals as goal
 

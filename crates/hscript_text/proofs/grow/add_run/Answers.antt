@@ -1,8 +1,7 @@
-use Rattle.std.proofs.Common.{◌≡◌, ℕ, ◌<◌, ◌≤◌, ◌-◌, ◌++◌, List, length, take, drop, subst, sym, ap, ◌∙◌, arith}
+use Rattle.std.proofs.Common.{ap, ◌∙◌}
 use Rattle.std.specs.List.{prefix_len}
-use Rattle.std.proofs.lemmas.List.{length-take-le}
 use Rattle.hscript_text.specs.Pieces.{is_plain}
-use Rattle.hscript_text.specs.Reading.{variables_of, grown}
+use Rattle.hscript_text.specs.Reading.{variables_of}
 use Rattle.hscript_text.proofs.Cuts.{behind_run}
 use Rattle.hscript_text.proofs.Growth.{run_added, run_not_added}
 use Rattle.hscript_text.proofs.grow.add_run.Goals as goal

@@ -1,4 +1,4 @@
-use Rattle.std.proofs.Common.{◌≡◌, ℕ, IfOk, IfErr, drop, Some, subst, sym, ap, ◌∙◌, arith}
+use Rattle.std.proofs.Common.{◌≡◌, IfErr, subst, sym, ap, ◌∙◌, arith}
 use Rattle.std.proofs.lemmas.Result.{IfOk-weaker}
 use Rattle.hscript_text.specs.Pieces.{name_len, braced, variable}
 use Rattle.hscript_text.specs.Reading.{variables_of, IsStop}
@@ -17,5 +17,5 @@ returns-then-begins-clause-ok c =
 pub returns-then-begins-clause-err : goal.returns-then-begins-clause-err
 returns-then-begins-clause-err c =
     let same : braced (variables_of c.args.variables.now) (name_len c.cut.result.1.now) c.cut.result.1.now ≡ variable (variables_of c.args.variables.now) c.args.text.now =
-        ap (λ t. braced (variables_of c.args.variables.now) (name_len t) t) c.cut.ensures.rest ∙ sym (variable_braced (variables_of c.args.variables.now) c.args.text.now (sym c.begins.ensures ∙ c.if-begins.true)) in
+    ap (λ t. braced (variables_of c.args.variables.now) (name_len t) t) c.cut.ensures.rest ∙ sym (variable_braced (variables_of c.args.variables.now) c.args.text.now (sym c.begins.ensures ∙ c.if-begins.true)) in
     subst (λ p. IfErr c.braced.result (λ stop. IsStop p stop)) same c.braced.ensures.err

@@ -1,4 +1,4 @@
-use Rattle.std.proofs.Common.{rules, ◌∙◌, ◌+◌, ap, sym, subst, false, eq-eqb, drop}
+use Rattle.std.proofs.Common.{◌∙◌, ◌+◌, ap, sym, false, drop}
 use Rattle.hscript_text.specs.Words.{unescaped_quote}
 use Rattle.hscript_text.proofs.Closings.{further, further-zero, quote_here, quote_escape, quote_plain, quote_past}
 use Rattle.hscript_text.proofs.quotes.unescaped_quote.Goals as goal

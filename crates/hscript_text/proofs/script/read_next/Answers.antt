@@ -1,5 +1,4 @@
-use Rattle.std.proofs.Common.{◌≡◌, ◌<◌, ap, sym, ◌∙◌, get_or, length, arith}
-use Rattle.std.proofs.lemmas.Result.{IfOk-weaker}
+use Rattle.std.proofs.Common.{◌≡◌, ap, sym, ◌∙◌, get_or}
 use Rattle.hscript_text.specs.declared.verb.Start.TheVariants.{Between, Comment, Command}
 use Rattle.hscript_text.specs.Script.{start_of}
 use Rattle.hscript_text.specs.Reading.{state_of}

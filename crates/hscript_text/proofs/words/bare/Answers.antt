@@ -1,4 +1,4 @@
-use Rattle.std.proofs.Common.{◌≡◌, ap, sym, ◌∙◌}
+use Rattle.std.proofs.Common.{ap, ◌∙◌}
 use Rattle.std.specs.List.{prefix_len}
 use Rattle.hscript_text.specs.Words.{is_bare}
 use Rattle.hscript_text.proofs.Cuts.{behind_bare}

@@ -1,4 +1,4 @@
-use Rattle.std.proofs.Common.{◌≡◌, subst, sym, ap, ◌∙◌}
+use Rattle.std.proofs.Common.{subst}
 use Rattle.hscript_text.specs.Reading.{IsEnd}
 use Rattle.hscript_text.proofs.Cuts.{behind_end}
 use Rattle.hscript_text.proofs.words.quoted.Goals as goal
