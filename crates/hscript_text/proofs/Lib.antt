@@ -1,0 +1,10 @@
+pub mod Cuts
+pub mod Pieces
+pub mod Growth
+pub mod Closings
+pub mod Commands
+pub mod Openings
+pub mod Echoing
+pub mod Scripts
+pub mod Examples
+pub mod NoMemory

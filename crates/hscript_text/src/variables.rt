@@ -1,0 +1,42 @@
+// The variables of a script.
+ghost use Rattle.std.specs.Prelude.{◌≡◌, OnOk};
+ghost use Rattle.std.specs.Option.{option_copied};
+ghost use Rattle.hscript_text.specs.Pieces.{no_variables, with_variable};
+ghost use Rattle.hscript_text.specs.Reading.{variables_of};
+
+use crate::word::Word;
+use std::alloc::{AllocError, Global};
+use std::collections::BTreeMap;
+
+/// The text of each variable by its name.
+#[derive(Drop)]
+pub struct Variables {
+    texts: BTreeMap<String, Word>,
+    alloc: Global,
+}
+
+impl Variables {
+    pub fn new(alloc: Global) -> Variables
+        ensures { variables_of result ≡ no_variables }
+    {
+        Variables {
+            texts: BTreeMap::new(alloc),
+            alloc,
+        }
+    }
+
+    pub fn get(&self, name: &str) -> Option<&Word>
+        ensures { option_copied result ≡ variables_of self.now name.now }
+    {
+        self.texts.get(name)
+    }
+
+    /// Sets a variable, in place of a former text of it.
+    pub fn set(&mut self, name: &str, text: Word) -> Result<(), AllocError>
+        ensures { OnOk result (variables_of self.new ≡ with_variable (variables_of self.old) name.now text) }
+    {
+        let name = String::from_str(self.alloc, name)?;
+        self.texts.insert(name, text)?;
+        Ok(())
+    }
+}
