@@ -1,13 +1,16 @@
 -- The rule of the cook, which speaks of no bound, and when two cooks are the same.
 use Rattle.std.proofs.Common.{◌≡◌, ap, sym, refl, ◌∙◌, subst, ℕ, zero, suc, ◌+◌, ◌-◌, ◌<◌, List, [], ◌∷◌, length, arith, get_or}
-use Rattle.std.specs.Prelude.{Option, None, Some, Contains, slice_get}
+use Rattle.std.specs.Prelude.{Option, None, Some, Result, Ok, Err, Contains, slice_get}
+use Rattle.sop_model.specs.declared.geo.Geo.{Geo}
+use Rattle.sop_model.specs.declared.fault.Fault.{Fault}
+use Rattle.sop_model.specs.declared.fault.Fault.TheVariants as fault
 use Rattle.sop_net.specs.Graph.{Within}
 use Rattle.sop_net.specs.declared.kind.NodeType.{NodeType}
 use Rattle.sop_net.specs.declared.kind.NodeType.TheVariants as type
 use Rattle.sop_net.specs.declared.node.Node.{Node}
-use Rattle.sop_net.specs.Network.{node_of, wired, wire_at, parm_at, switch_input, used_wires, wires_used_by, used_sources}
+use Rattle.sop_net.specs.Network.{node_of, wired, wire_at, parm_at, switch_input, used_wires, wires_used_by, used_sources, IsLive}
 use Rattle.sop_cook.specs.Loads.{FileMap}
-use Rattle.sop_cook.specs.SerialCook.{Outcome, then_with, at_node, file_geo, merge_geo, gathered, given, merge_outcome, visit_type, visit, cooked, cook_of}
+use Rattle.sop_cook.specs.SerialCook.{Outcome, Failure, failed, then_with, at_node, file_geo, merge_geo, gathered, given, merge_outcome, visit_type, visit, cooked, cook_of}
 
 first_is : (x : ℕ) (xs : List ℕ) → Contains (x ∷ xs) x
 first_is x xs = (0, omega arith, refl)
@@ -75,3 +78,56 @@ source_used nodes x i source wire = wired_at (used_wires (node_of nodes x)) i so
 pub source_within : (nodes : List Node) (left x i source : ℕ) → Within (used_sources nodes) left x → wire_at (used_wires (node_of nodes x)) i ≡ Some source
     → (0 < left) × Within (used_sources nodes) (left - 1) source
 source_within nodes left x i source within wire = within_less (used_sources nodes) left x source within (source_used nodes x i source wire)
+
+-- a node's own fault is at the node
+own_failure : (nodes : List Node) (x : ℕ) (made : Result Geo Fault) (f : Failure) → IsLive nodes x → at_node x made ≡ Err f → IsLive nodes f.node
+own_failure nodes x (Ok g) f live h = let no : ⊥ = cc in absurd no
+own_failure nodes x (Err fault) f live h = let same : failed x fault ≡ f = cc in subst (λ e. IsLive nodes e.node) same live
+
+abbrev FailsAlive : (ℕ → Outcome) → List Node → ℕ → Type 0
+FailsAlive go nodes x = (f : Failure) → go x ≡ Err f → IsLive nodes f.node
+
+gathered_failure : (go : ℕ → Outcome) (nodes : List Node) (wires : List (Option ℕ)) → ((source : ℕ) → Contains (wired wires) source → FailsAlive go nodes source) → (f : Failure) → gathered go wires ≡ Err f → IsLive nodes f.node
+gathered_failure go nodes [] each f h = let no : ⊥ = cc in absurd no
+gathered_failure go nodes (None ∷ wires) each f h = gathered_failure go nodes wires each f h
+gathered_failure go nodes (Some source ∷ wires) each f h =
+    by (gathered_failure go nodes wires (λ s c. each s (further source s (wired wires) c)) f) (go source) refl (gathered go wires) refl h
+  where
+    by : (gathered go wires ≡ Err f → IsLive nodes f.node) → (first : Outcome) → go source ≡ first → (rest : Result (List Geo) Failure) → gathered go wires ≡ rest → then_with first (λ g. then_with rest (λ gs. Ok (g ∷ gs))) ≡ Err f → IsLive nodes f.node
+    by later (Err e) is rest more failing = let same : e ≡ f = cc in each source (first_is source (wired wires)) f (is ∙ ap Err same)
+    by later (Ok g) is (Err e) more failing = let same : e ≡ f = cc in later (more ∙ ap Err same)
+    by later (Ok g) is (Ok gs) more failing = let no : ⊥ = cc in absurd no
+
+given_failure : (go : ℕ → Outcome) (nodes : List Node) (x input : ℕ) (wire : Option ℕ) → IsLive nodes x → ((source : ℕ) → wire ≡ Some source → FailsAlive go nodes source) → (f : Failure) → given go x input wire ≡ Err f → IsLive nodes f.node
+given_failure go nodes x input None live each f h = let same : failed x (fault.NoInput input) ≡ f = cc in subst (λ e. IsLive nodes e.node) same live
+given_failure go nodes x input (Some source) live each f h = each source refl f h
+
+merge_failure : (go : ℕ → Outcome) (nodes : List Node) (x : ℕ) (wires : List (Option ℕ)) → IsLive nodes x → ((source : ℕ) → Contains (wired wires) source → FailsAlive go nodes source) → (f : Failure) → merge_outcome go x wires ≡ Err f → IsLive nodes f.node
+merge_failure go nodes x wires live each f h = by (gathered go wires) refl h
+  where
+    by : (got : Result (List Geo) Failure) → gathered go wires ≡ got → then_with got (λ gs. at_node x (merge_geo gs)) ≡ Err f → IsLive nodes f.node
+    by (Err e) is failing = let same : e ≡ f = cc in gathered_failure go nodes wires each f (is ∙ ap Err same)
+    by (Ok gs) is failing = own_failure nodes x (merge_geo gs) f live failing
+
+type_failure : (go : ℕ → Outcome) (files : FileMap) (nodes : List Node) (x : ℕ) (n : Node) (kind : NodeType) → IsLive nodes x → ((source : ℕ) → Contains (wired (wires_used_by kind n)) source → FailsAlive go nodes source)
+    → (f : Failure) → visit_type go files x n kind ≡ Err f → IsLive nodes f.node
+type_failure go files nodes x n type.File live each f h = own_failure nodes x (file_geo (files (parm_at n.parms 0))) f live h
+type_failure go files nodes x n type.Merge live each f h = merge_failure go nodes x n.wires live each f h
+type_failure go files nodes x n type.Null live each f h = given_failure go nodes x 0 (wire_at n.wires 0) live (λ source e. each source (wired_at n.wires 0 source e)) f h
+type_failure go files nodes x n type.Switch live each f h =
+    given_failure go nodes x (switch_input n) (wire_at n.wires (switch_input n)) live (λ source e. each source (wired_at (wire_at n.wires (switch_input n) ∷ []) 0 source e)) f h
+type_failure go files nodes x n other live each f h = own_failure nodes x (Err fault.NotYet) f live h
+
+visit_failure : (go : ℕ → Outcome) (files : FileMap) (nodes : List Node) (x : ℕ) (found : Option Node) → IsLive nodes x → ((source : ℕ) → Contains (wired (used_wires found)) source → FailsAlive go nodes source)
+    → (f : Failure) → visit go files x found ≡ Err f → IsLive nodes f.node
+visit_failure go files nodes x None live each f h = own_failure nodes x (Err fault.NotYet) f live h
+visit_failure go files nodes x (Some n) live each f h = type_failure go files nodes x n n.kind live each f h
+
+failure_within : (files : FileMap) (nodes : List Node) → ((x y : ℕ) → Contains (used_sources nodes x) y → IsLive nodes y) → (depth x : ℕ) → IsLive nodes x → (f : Failure) → cooked depth files nodes x ≡ Err f → IsLive nodes f.node
+failure_within files nodes used zero x live f h = own_failure nodes x (Err fault.NotYet) f live h
+failure_within files nodes used (suc depth) x live f h =
+    visit_failure (cooked depth files nodes) files nodes x (node_of nodes x) live (λ source c. failure_within files nodes used depth source (used x source c)) f h
+
+-- a fault's node stands
+pub failure_live : (files : FileMap) (nodes : List Node) → ((x y : ℕ) → Contains (used_sources nodes x) y → IsLive nodes y) → (x : ℕ) → IsLive nodes x → (f : Failure) → cook_of files nodes x ≡ Err f → IsLive nodes f.node
+failure_live files nodes used x live f h = failure_within files nodes used (length nodes) x live f h

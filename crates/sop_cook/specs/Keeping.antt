@@ -8,7 +8,7 @@ use Rattle.sop_model.specs.declared.fault.CookStop.{CookStop}
 use Rattle.sop_model.specs.declared.fault.CookStop.TheVariants as stop
 use Rattle.sop_model.specs.Geometry.{IsGood, Fits, HasOnlyPosition}
 use Rattle.sop_net.specs.declared.node.Node.{Node}
-use Rattle.sop_net.specs.Network.{place_of}
+use Rattle.sop_net.specs.Network.{place_of, IsLive}
 use Rattle.sop_cook.specs.declared.cook_end.CookEnd.{CookEnd}
 use Rattle.sop_cook.specs.declared.cook_end.CookEnd.TheVariants as end
 use Rattle.sop_cook.specs.declared.kept.Kept.{Kept}
@@ -33,6 +33,11 @@ abbrev pub Tells : Outcome → Result Geo CookEnd → Type 0
 Tells outcome (Ok g) = outcome ≡ Ok g
 Tells outcome (Err (end.Fault x f)) = outcome ≡ Err (failed x f)
 Tells outcome (Err end.Memory) = ⊤
+
+-- the node of a fault stands
+abbrev pub IsAtLive : List Node → CookEnd → Type 0
+IsAtLive nodes (end.Fault x f) = IsLive nodes x
+IsAtLive nodes end.Memory = ⊤
 
 -- the same, of what one node makes
 abbrev pub TellsMade : Result Geo fault.Fault → Result Geo CookStop → Type 0

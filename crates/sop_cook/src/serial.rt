@@ -1,12 +1,12 @@
 // The serial cook of a network. Each node that is needed is cooked once.
-ghost use Rattle.std.specs.Prelude.{◌≡◌, ◌≤◌, length, All, IfOk, Result};
+ghost use Rattle.std.specs.Prelude.{◌≡◌, ◌≤◌, length, All, IfErr, IfOk, Result};
 ghost use Rattle.sop_model.specs.declared.geo.Geo.{Geo};
 ghost use Rattle.sop_model.specs.declared.fault.Fault.{Fault};
 ghost use Rattle.sop_net.specs.Graph.{Within};
 ghost use Rattle.sop_net.specs.Network.{IsLive, IsNetwork, node_of, used_sources, wire_at, wires_of, used_wires};
 ghost use Rattle.sop_cook.specs.SerialCook.{at_node, cook_of, failed, file_geo, gathered, given, merge_outcome};
 ghost use Rattle.sop_cook.specs.Loads.{file_in};
-ghost use Rattle.sop_cook.specs.Keeping.{IsKept, Tells, TellsAll, TellsMade, IsReady, AreNone};
+ghost use Rattle.sop_cook.specs.Keeping.{IsAtLive, IsKept, Tells, TellsAll, TellsMade, IsReady, AreNone};
 
 use crate::cook_end::CookEnd;
 use crate::kept::Kept;
@@ -217,6 +217,7 @@ pub fn cook(alloc: Global, net: &Net, node: NodeId, loaded: &Loaded) -> Result<G
     requires { IsLive net.now.nodes node }
     ensures tells { Tells (cook_of (file_in loaded.now) net.now.nodes node) result }
     ensures ready { IfOk result IsReady }
+    ensures at { IfErr result (IsAtLive net.now.nodes) }
 {
     net.is_network();
     let nodes = net.nodes();

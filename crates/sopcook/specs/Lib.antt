@@ -1,7 +1,4 @@
-pub mod Network
-pub mod Script
-pub mod SerialCook
+pub mod Request
 pub mod Loads
-pub mod Keeping
 pub mod Answer
 pub mod Delivery

@@ -1,16 +1,12 @@
-//! Cooks a node of a network of OBJ files, and writes its geometry as OBJ.
+//! Cooks a node of the network that a command file builds, and writes its geometry as OBJ.
 #![tactic(auto)]
 
 mod answer;
-mod cook;
-mod fault;
-mod kept;
-mod loaded;
 mod loads;
-mod merge;
-mod network;
+mod opening;
+mod request;
 mod run;
-mod script;
+mod run_end;
 
 use run::run;
 use sop_outside::{DiskFiles, Sink, StdSink, put};
@@ -32,8 +28,8 @@ fn refuse_words<E: Sink>(kind: ErrorKind, err: &mut E) -> u8 {
     if kind == ErrorKind::OutOfMemory {
         return 7;
     }
-    match put(err, b"sopcook: NotYet\n") {
-        Ok(()) => 3,
+    match put(err, b"sopcook: words\n") {
+        Ok(()) => 2,
         Err(_) => 6,
     }
 }

@@ -1,0 +1,70 @@
+-- What the words of the command line ask for.
+--
+-- They are read as `clap` reads one command: `sopcook SCRIPT NODE [-j N] [--form FORM]`, two required positionals and two options that take one
+-- text each. It has no version, and a request for help is refused as an unknown word is. N is one or two digits with a value from 1 to 64, and
+-- FORM is `obj`.
+use Rattle.std.specs.Prelude.{ℕ, ◌+◌, ◌-◌, ◌*◌, Bool, true, false, ◌&&◌, nat_le, if◌then◌else◌, List, [], ◌∷◌, Option, None, Some, codes, bytes_eq}
+use Rattle.std.specs.Char.{is_ascii_digit}
+use Rattle.clap.specs.Words.{App, Rule, Kinds, new_app, new_rule, with_rule, matches_of, first_of, fault_of}
+
+-- what is asked for: a script, and a node of its network
+pub record Request : Type 0 where
+  pub script : List ℕ
+  pub node : List ℕ
+
+abbrev pub positional : List ℕ → Rule
+positional id = record (new_rule id) { required = true }
+
+abbrev pub short_option : List ℕ → ℕ → Rule
+short_option id letter = record (new_rule id) { short = Some letter }
+
+abbrev pub long_option : List ℕ → List ℕ → Rule
+long_option id name = record (new_rule id) { long = Some name }
+
+-- words alone, without the program's name, and no request for help
+abbrev pub bare_app : App
+bare_app = record { top = record (new_app (codes "sopcook")).top { no_binary_name = true; disable_help_flag = true }; subs = [] }
+
+-- the command
+abbrev pub sopcook_app : App
+sopcook_app =
+    with_rule (with_rule (with_rule (with_rule bare_app
+    (positional (codes "script")))
+    (positional (codes "node")))
+    (short_option (codes "workers") 106))
+    (long_option (codes "form") (codes "form"))
+
+abbrev pub are_taken : Kinds → Bool
+are_taken [] = true
+are_taken (kind ∷ kinds) = false
+
+-- the text that the words give for an argument
+abbrev pub given_for : List ℕ → List (List ℕ) → Option (List ℕ)
+given_for id words = first_of id (matches_of sopcook_app words)
+
+-- one or two digits with a value from 1 to 64
+abbrev pub is_workers : List ℕ → Bool
+is_workers [] = false
+is_workers (a ∷ []) = is_ascii_digit a && nat_le 49 a
+is_workers (a ∷ b ∷ []) = is_ascii_digit a && is_ascii_digit b && nat_le 1 ((a - 48) * 10 + (b - 48)) && nat_le ((a - 48) * 10 + (b - 48)) 64
+is_workers (a ∷ b ∷ c ∷ text) = false
+
+abbrev pub is_form : List ℕ → Bool
+is_form text = bytes_eq text (codes "obj")
+
+-- an option may be left out
+abbrev pub passes : (List ℕ → Bool) → Option (List ℕ) → Bool
+passes fits None = true
+passes fits (Some text) = fits text
+
+abbrev pub asked : Option (List ℕ) → Option (List ℕ) → Bool → Option Request
+asked (Some script) (Some node) true = Some (record { script = script; node = node })
+asked script node fit = None
+
+abbrev pub taken_request : Bool → List (List ℕ) → Option Request
+taken_request true words = asked (given_for (codes "script") words) (given_for (codes "node") words) (passes is_workers (given_for (codes "workers") words) && passes is_form (given_for (codes "form") words))
+taken_request false words = None
+
+-- what these words ask for, where they aren't refused
+abbrev pub request_of : List (List ℕ) → Option Request
+request_of words = taken_request (are_taken (fault_of sopcook_app words)) words
