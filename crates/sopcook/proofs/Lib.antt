@@ -1,0 +1,3 @@
+pub mod DeliveryLemmas
+pub mod LoadsLemmas
+pub mod RequestLemmas

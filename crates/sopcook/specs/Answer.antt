@@ -19,7 +19,7 @@ use Rattle.sop_cook.specs.SerialCook.{Outcome, Failure, cook_of}
 use Rattle.sopcook.specs.declared.answer.Answer.{Answer}
 use Rattle.sopcook.specs.declared.opening.Opening.{Opening}
 use Rattle.sopcook.specs.declared.opening.Opening.TheVariants.{Refused, Cooking}
-use Rattle.sopcook.specs.Request.{Request, request_of}
+use Rattle.sopcook.specs.Request.{Asked, request_of}
 use Rattle.sopcook.specs.Loads.{script_limit, told_files}
 
 -- a line behind the program's name
@@ -73,7 +73,7 @@ loaded_opening node (Ok bytes) = script_opening node (script_of bytes)
 loaded_opening node (Err end.TooLong) = Refused script_too_long
 loaded_opening node (Err other) = Refused no_script
 
-abbrev pub asked_opening : Names → Option Request → Opening
+abbrev pub asked_opening : Names → Option Asked → Opening
 asked_opening names None = Refused words_answer
 asked_opening names (Some request) = loaded_opening request.node (load_of names request.script script_limit)
 

@@ -5,12 +5,16 @@
 -- FORM is `obj`.
 use Rattle.std.specs.Prelude.{ℕ, ◌+◌, ◌-◌, ◌*◌, Bool, true, false, ◌&&◌, nat_le, if◌then◌else◌, List, [], ◌∷◌, Option, None, Some, codes, bytes_eq}
 use Rattle.std.specs.Char.{is_ascii_digit}
+use Rattle.sopcook.specs.declared.request.Request.{Request}
 use Rattle.clap.specs.Words.{App, Rule, Kinds, new_app, new_rule, with_rule, matches_of, first_of, fault_of}
 
 -- what is asked for: a script, and a node of its network
-pub record Request : Type 0 where
+pub record Asked : Type 0 where
   pub script : List ℕ
   pub node : List ℕ
+
+abbrev pub request_seen : Request → Asked
+request_seen request = record { script = request.script.now; node = request.node.now }
 
 abbrev pub positional : List ℕ → Rule
 positional id = record (new_rule id) { required = true }
@@ -57,14 +61,14 @@ abbrev pub passes : (List ℕ → Bool) → Option (List ℕ) → Bool
 passes fits None = true
 passes fits (Some text) = fits text
 
-abbrev pub asked : Option (List ℕ) → Option (List ℕ) → Bool → Option Request
+abbrev pub asked : Option (List ℕ) → Option (List ℕ) → Bool → Option Asked
 asked (Some script) (Some node) true = Some (record { script = script; node = node })
-asked script node fit = None
+asked _ _ _ = None
 
-abbrev pub taken_request : Bool → List (List ℕ) → Option Request
+abbrev pub taken_request : Bool → List (List ℕ) → Option Asked
 taken_request true words = asked (given_for (codes "script") words) (given_for (codes "node") words) (passes is_workers (given_for (codes "workers") words) && passes is_form (given_for (codes "form") words))
 taken_request false words = None
 
 -- what these words ask for, where they aren't refused
-abbrev pub request_of : List (List ℕ) → Option Request
+abbrev pub request_of : List (List ℕ) → Option Asked
 request_of words = taken_request (are_taken (fault_of sopcook_app words)) words

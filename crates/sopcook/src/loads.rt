@@ -63,6 +63,7 @@ fn load_files<F: Files>(
     ensures loads { IfSome (F.told files.old) (λ names. IfOk result (HoldsLoads names)) }
     ensures all { IfOk result (HasFilesOf net.now.nodes nodes.now) }
 {
+    net.is_network();
     let mut loaded = Loaded::new(alloc);
     for node in nodes {
         load_file(files, alloc, net.parms(*node).text(0), &mut loaded)?;

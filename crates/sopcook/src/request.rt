@@ -1,10 +1,10 @@
 // The words of the command line.
-ghost use Rattle.std.specs.Prelude.{◌≡◌, Err, IfOk, IfErr, None, Some, codes, map, option_map, string_bytes};
-ghost use Rattle.clap.specs.Words.{app_of};
-ghost use Rattle.sopcook.specs.Request.{sopcook_app, request_of, is_workers, is_form, passes};
+ghost use Rattle.std.specs.Prelude.{◌≡◌, ◌&&◌, Err, IfOk, None, Some, codes, false, map, option_map, string_bytes, true};
+ghost use Rattle.clap.specs.Words.{app_of, fault_of, first_value, found_of, kind_of, matches_of, rows_of};
+ghost use Rattle.sopcook.specs.Request.{are_taken, asked, is_form, is_workers, passes, request_of, request_seen, sopcook_app};
 
 use clap::error::ErrorKind;
-use clap::{Arg, Command};
+use clap::{Arg, ArgMatches, Command, Error};
 use std::alloc::{AllocError, Global};
 
 /// What the words ask for.
@@ -26,7 +26,7 @@ pub enum RequestEnd {
 }
 
 /// The command: `sopcook SCRIPT NODE [-j N] [--form FORM]`.
-fn command(alloc: Global) -> Result<Command<'static>, AllocError>
+fn command<'a>(alloc: Global) -> Result<Command<'a>, AllocError>
     ensures { IfOk result (λ command. app_of command ≡ sopcook_app) }
 {
     let script = Arg::new(alloc, "script").required(true);
@@ -57,7 +57,7 @@ fn is_workers(text: &[u8]) -> bool
 }
 
 fn are_workers(text: Option<&str>) -> bool
-    ensures { result ≡ passes is_workers (option_map (λ t. t.now) text) }
+    ensures { result ≡ passes is_workers (option_map (λ t. t.now) text.entry) }
 {
     match text {
         Some(text) => is_workers(text.as_bytes()),
@@ -66,7 +66,7 @@ fn are_workers(text: Option<&str>) -> bool
 }
 
 fn is_form(text: Option<&str>) -> bool
-    ensures { result ≡ passes is_form (option_map (λ t. t.now) text) }
+    ensures { result ≡ passes is_form (option_map (λ t. t.now) text.entry) }
 {
     match text {
         Some(text) => text == "obj",
@@ -74,25 +74,63 @@ fn is_form(text: Option<&str>) -> bool
     }
 }
 
-/// What the words ask for. `Refused` comes exactly where they aren't taken, `Memory` for want of memory.
-pub fn read_words<'a>(alloc: Global, words: &'a [String]) -> Result<Request<'a>, RequestEnd>
-    ensures ok { IfOk result (λ request. request_of (map string_bytes words.now) ≡ Some (record { script = request.script.now; node = request.node.now })) }
-    ensures refused { result ≡ Err RequestEnd.Refused → request_of (map string_bytes words.now) ≡ None }
+/// What an error of the command means.
+fn end_of(error: &Error) -> RequestEnd
+    ensures { result ≡ RequestEnd.Refused → kind_of error.now ≡ ErrorKind.OutOfMemory → ⊥ }
+{
+    match error.kind() {
+        ErrorKind::OutOfMemory => RequestEnd::Memory,
+        _ => RequestEnd::Refused,
+    }
+}
+
+/// The matches of the words.
+fn parse<'a>(alloc: Global, words: &'a [String]) -> Result<ArgMatches<'a>, RequestEnd>
+    ensures taken { IfOk result (λ matches. are_taken (fault_of sopcook_app (map string_bytes words.now)) ≡ true) }
+    ensures rows { IfOk result (λ matches. rows_of (found_of matches) ≡ matches_of sopcook_app (map string_bytes words.now)) }
+    ensures refused { result ≡ Err RequestEnd.Refused → are_taken (fault_of sopcook_app (map string_bytes words.now)) ≡ false }
 {
     let command = match command(alloc) {
         Ok(command) => command,
         Err(_) => return Err(RequestEnd::Memory),
     };
-    let matches = match command.try_get_matches_from(words) {
-        Ok(matches) => matches,
-        Err(error) if error.kind() == ErrorKind::OutOfMemory => return Err(RequestEnd::Memory),
-        Err(_) => return Err(RequestEnd::Refused),
-    };
-    let (Some(script), Some(node)) = (matches.get_str("script"), matches.get_str("node")) else {
-        return Err(RequestEnd::Refused);
-    };
-    if !are_workers(matches.get_str("workers")) || !is_form(matches.get_str("form")) {
-        return Err(RequestEnd::Refused);
+    match command.try_get_matches_from(words) {
+        Ok(matches) => Ok(matches),
+        Err(error) => Err(end_of(&error)),
     }
-    Ok(Request { script, node })
+}
+
+/// Whether the options have values that they take.
+fn options_fit(matches: &ArgMatches<'_>) -> bool
+    ensures { result ≡ (passes is_workers (first_value (found_of matches.now) (codes "workers")) && passes is_form (first_value (found_of matches.now) (codes "form"))) }
+{
+    are_workers(matches.get_str("workers")) && is_form(matches.get_str("form"))
+}
+
+/// What the matches ask for.
+fn asked<'a>(matches: &ArgMatches<'a>) -> Option<Request<'a>>
+    ensures { option_map request_seen result ≡ asked (first_value (found_of matches.now) (codes "script")) (first_value (found_of matches.now) (codes "node"))
+        (passes is_workers (first_value (found_of matches.now) (codes "workers")) && passes is_form (first_value (found_of matches.now) (codes "form"))) }
+{
+    if !options_fit(matches) {
+        return None;
+    }
+    let script = matches.get_str("script")?;
+    let node = matches.get_str("node")?;
+    Some(Request { script, node })
+}
+
+/// What the words ask for. `Refused` comes exactly where they aren't taken, `Memory` for want of memory.
+pub fn read_words<'a>(alloc: Global, words: &'a [String]) -> Result<Request<'a>, RequestEnd>
+    ensures ok { IfOk result (λ request. request_of (map string_bytes words.now) ≡ Some (request_seen request)) }
+    ensures refused { result ≡ Err RequestEnd.Refused → request_of (map string_bytes words.now) ≡ None }
+{
+    let matches = match parse(alloc, words) {
+        Ok(matches) => matches,
+        Err(end) => return Err(end),
+    };
+    match asked(&matches) {
+        Some(request) => Ok(request),
+        None => Err(RequestEnd::Refused),
+    }
 }

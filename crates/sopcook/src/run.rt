@@ -1,9 +1,10 @@
 // The top call: words and files in, bytes and a status out.
-ghost use Rattle.std.specs.Prelude.{◌≡◌, ◌≤◌, ◌<◌, ◌⊎◌, ◌++◌, Err, IfOk, IfSome, map, string_bytes, [], Some};
+ghost use Rattle.std.specs.Prelude.{◌≡◌, ◌≤◌, ◌<◌, ◌⊎◌, ◌++◌, Err, IfErr, IfOk, IfSome, map, string_bytes, [], Some};
 ghost use Rattle.sop_outside.specs.Causes.{Counts, Rose};
 ghost use Rattle.sop_outside.specs.Told.{appended, AppendsPrefix};
 ghost use Rattle.sop_net.specs.Network.{IsLive};
-ghost use Rattle.sop_cook.specs.SerialCook.{cook_of};
+ghost use Rattle.sop_cook.specs.SerialCook.{Outcome, cook_of};
+ghost use Rattle.sop_cook.specs.Keeping.{IsAtLive, Tells};
 ghost use Rattle.sopcook.specs.Loads.{told_files};
 ghost use Rattle.sopcook.specs.Answer.{answer_of, read_line, cook_answer, node_answer, echoing};
 ghost use Rattle.sopcook.specs.Delivery.{Told, Delivers, DeliversPrefix, DeliversReadFault, DeliversPartOfReadFault, StopsShort, IsAnswered, IsStatus};
@@ -17,6 +18,19 @@ use sop_cook::{CookEnd, cook};
 use sop_net::{Net, NodeId};
 use sop_outside::{Files, Sink, put};
 use std::alloc::Global;
+
+/// The answer of a cook that gave no geometry.
+fn answer_end(alloc: Global, net: &Net, end: &CookEnd) -> Result<Answer, RunEnd>
+    requires { IsAtLive net.now.nodes end.now }
+    ensures ok { IfOk result (λ answer. (outcome : Outcome) → Tells outcome (Err end.now) → answer ≡ cook_answer net.now.nodes outcome) }
+    ensures status { IfOk result (λ answer. IsAnswered answer.status) }
+    ensures memory { IfErr result (λ stop. stop ≡ RunEnd.Memory) }
+{
+    match end {
+        CookEnd::Fault { node, fault } => Ok(Answer::of_fault(alloc, net, *node, fault)?),
+        CookEnd::Memory => Err(RunEnd::Memory),
+    }
+}
 
 /// The answer of a node that stands.
 fn answer_node<F: Files>(
@@ -34,8 +48,7 @@ fn answer_node<F: Files>(
     let loaded = load_needs(files, alloc, net, node)?;
     match cook(alloc, net, node, &loaded) {
         Ok(geo) => Ok(Answer::of_geo(alloc, &geo)?),
-        Err(CookEnd::Fault { node, fault }) => Ok(Answer::of_fault(alloc, net, node, &fault)?),
-        Err(CookEnd::Memory) => Err(RunEnd::Memory),
+        Err(end) => answer_end(alloc, net, &end),
     }
 }
 
