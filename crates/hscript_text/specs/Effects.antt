@@ -12,6 +12,7 @@ use Rattle.hscript_text.specs.declared.verb.Verb.{Verb}
 use Rattle.hscript_text.specs.declared.verb.Verb.TheVariants.{OpAdd, OpParm, OpWire, OpRm, Set, Echo}
 use Rattle.hscript_text.specs.Pieces.{Variables, no_variables, with_variable}
 
+-- The network, the variables and the echoed text so far.
 pub record State : Type 0 where
   pub net : Network
   pub variables : Variables

@@ -72,7 +72,7 @@ fn read_next<'a>(reader: &mut Reader, text: &'a str) -> Result<&'a str, Stop>
     ensures err { IfErr result (λ stop. (line : ℕ) → IsOutcome (script_from line (state_of reader.old) 0 text.now) line stop) }
 {
     let [b, ..] = text.as_bytes() else {
-        return Ok(text);
+        unreachable!();
     };
     match start_of(*b) {
         Start::Between => Ok(cut(text, 1).1),

@@ -1,1 +1,23 @@
-mod StandIn
+pub mod WholeLemmas
+pub mod PlaceLemmas
+pub mod NameLemmas
+pub mod Membership
+pub mod GraphLemmas
+pub mod OrderLemmas
+pub mod DefaultLemmas
+pub mod AddLemmas
+pub mod Searches
+pub mod EditLemmas
+pub mod ChangeLemmas
+pub mod SetLemmas
+pub mod FlagLemmas
+pub mod WireLemmas
+pub mod WireSteps
+pub mod RemoveLemmas
+pub mod SwitchLemmas
+pub mod UsedLemmas
+pub mod ReadLemmas
+pub mod RoomLemmas
+pub mod NeedsLemmas
+pub mod ListingLemmas
+mod NeedsExamples

@@ -1,5 +1,5 @@
 -- Graphs as functions: `f x` lists the nodes that x takes from.
-use Rattle.std.specs.Prelude.{◌≡◌, ℕ, zero, suc, ◌+◌, List, Bool, false, ◌||◌, ◌==◌, Contains}
+use Rattle.std.specs.Prelude.{◌≡◌, ℕ, zero, suc, List, Bool, false, ◌||◌, ◌==◌, Contains}
 use Rattle.std.specs.List.{list_any}
 
 -- y is met so many steps upstream of x

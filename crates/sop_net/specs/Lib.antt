@@ -1,6 +1,10 @@
 pub mod NodeTable
+pub mod Rows
 pub mod ParmValues
 pub mod Graph
 pub mod Network
+pub mod Order
 pub mod Steps
+pub mod Edits
 pub mod Needs
+pub mod Listing

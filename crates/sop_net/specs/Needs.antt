@@ -1,6 +1,6 @@
 -- The files that the cook of a node needs: those of the `file` nodes among it and the nodes upstream of it by used wires, depth first by
 -- rising input number, inputs before the node, each name once.
-use Rattle.std.specs.Prelude.{ℕ, zero, suc, Bool, true, false, ◌&&◌, not, if◌then◌else◌, List, [], ◌∷◌, ◌++◌, length, flat_map, fold, Option, None, Some, bytes_eq}
+use Rattle.std.specs.Prelude.{ℕ, zero, suc, Bool, false, if◌then◌else◌, List, [], ◌∷◌, ◌++◌, length, flat_map, Option, None, Some, bytes_eq}
 use Rattle.std.specs.List.{list_any}
 use Rattle.sop_net.specs.declared.kind.NodeType.{NodeType}
 use Rattle.sop_net.specs.declared.kind.NodeType.TheVariants as type

@@ -3,9 +3,8 @@
 --
 -- A node's number is how many nodes were added before it; it keeps it when others are removed. A wire stands at the number of the input that
 -- it goes into, and names its source by the source's number.
-use Rattle.std.specs.Prelude.{◌≡◌, ℕ, ◌<◌, ◌≤◌, ◌==◌, Bool, IsTrue, zero, suc, ⊤, Contains, List, [], ◌∷◌, length, All, Option, None, Some, find, position, slice_get, replicate, option_map, bytes_eq, is_some, unsigned_abs, map, filter_map, AllPairs}
+use Rattle.std.specs.Prelude.{◌≡◌, ℕ, ◌<◌, ◌≤◌, ◌==◌, IsTrue, zero, suc, ⊤, Contains, List, [], ◌∷◌, length, All, Option, None, Some, find, position, slice_get, replicate, option_map, bytes_eq, is_some, unsigned_abs, map, AllPairs}
 use Rattle.std.specs.Option.{option_and_then}
-use Rattle.std.specs.List.{list_all}
 use Rattle.sop_model.specs.Geometry.{is_name, are_distinct}
 use Rattle.sop_net.specs.declared.kind.NodeType.{NodeType}
 use Rattle.sop_net.specs.declared.kind.NodeType.TheVariants as type

@@ -2,7 +2,7 @@
 --
 -- A whole number is an optional `-` and 1 to 10 digits, within its bounds; `-0` and leading zeros are fine, `+` isn't. A numeral must be in
 -- range. Three numerals, and any multiple of three of them (in at most 65,536 bytes), are words between blanks: space, tab, CR and LF.
-use Rattle.std.specs.Prelude.{ℕ, ◌%◌, ℤ, pos, neg_ℤ, int_le, Bool, true, ◌&&◌, ◌||◌, not, nat_le, ◌==◌, if◌then◌else◌, List, [], ◌∷◌, length, drop, filter, codes, bytes_eq, is_ok}
+use Rattle.std.specs.Prelude.{ℕ, ◌%◌, ℤ, pos, neg_ℤ, int_le, Bool, ◌&&◌, ◌||◌, nat_le, ◌==◌, if◌then◌else◌, List, length, drop, filter, codes, bytes_eq, is_ok}
 use Rattle.std.specs.List.{slice_split, list_all, list_any}
 use Rattle.std.specs.Char.{is_ascii_digit}
 use Rattle.sop_fixed.specs.Numerals.{number_of, value_of, has_minus}

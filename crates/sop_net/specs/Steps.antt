@@ -1,12 +1,12 @@
 -- The steps of a network: a node is added, parameters are set, a wire is set, a node is removed. Each gives the new network, or the first
 -- refusal in the order that its rule names.
-use Rattle.std.specs.Prelude.{ℕ, ◌+◌, ◌-◌, ◌*◌, ◌<◌, Bool, true, false, ◌&&◌, ◌||◌, not, nat_le, nat_lt, ◌==◌, if◌then◌else◌, List, [], ◌∷◌, ◌++◌, length, map, remove, Option, None, Some, Result, Ok, Err, find, position, is_some, slice_get, slice_set, bytes_eq}
+use Rattle.std.specs.Prelude.{ℕ, ◌+◌, ◌-◌, ◌*◌, Bool, ◌&&◌, ◌||◌, not, nat_le, nat_lt, ◌==◌, if◌then◌else◌, List, [], ◌∷◌, ◌++◌, length, map, remove, Option, None, Some, Result, Ok, Err, find, position, is_some, slice_get, slice_set, bytes_eq}
 use Rattle.std.specs.Char.{is_ascii_digit}
 use Rattle.sop_model.specs.Geometry.{is_name}
 use Rattle.sop_net.specs.declared.kind.NodeType.{NodeType}
 use Rattle.sop_net.specs.declared.node.Node.{Node}
 use Rattle.sop_net.specs.declared.net_end.NetEnd.{NetEnd}
-use Rattle.sop_net.specs.declared.net_end.NetEnd.TheVariants.{BadName, NameTaken, NoType, Limit, NoNode, NoParm, BadValue, BadInput, Cycle, Memory}
+use Rattle.sop_net.specs.declared.net_end.NetEnd.TheVariants.{BadName, NameTaken, NoType, Limit, NoNode, NoParm, BadValue, BadInput, Cycle}
 use Rattle.sop_net.specs.NodeTable.{Parm, type_of_word, parms_of}
 use Rattle.sop_net.specs.ParmValues.{is_value}
 use Rattle.sop_net.specs.Graph.{searched}

@@ -1,10 +1,18 @@
 //! The network: nodes with their parameters and wires, which never go in a circle.
 #![tactic(auto)]
 
+mod edit;
+mod input;
 mod kind;
+mod name;
+mod needs;
 mod net;
 mod net_end;
 mod node;
+mod order;
+mod place;
+mod table;
+mod value;
 
 pub use kind::NodeType;
 pub use net::Net;

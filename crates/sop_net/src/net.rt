@@ -1,15 +1,23 @@
 // The network and its steps.
-ghost use Rattle.std.specs.Prelude.{◌≡◌, ◌<◌, ◌≤◌, ◌⊎◌, ◌%◌, ◌∷◌, [], ◌++◌, length, drop, IfOk, IfErr, OnOk, OnErr, Ok, Err, Some, option_map, slice_get, ℕ, Contains};
-ghost use Rattle.sop_net.specs.Network.{empty_network, node_of, number_named, place_of, IsLive, IsNetwork, wire_at, wires_of, used_wires, switch_input, sources, used_sources};
-ghost use Rattle.sop_net.specs.Graph.{Within};
-ghost use Rattle.sop_net.specs.Steps.{added_node, set_node, wired_node, removed_node};
+ghost use Rattle.std.specs.Prelude.{◌≡◌, ◌<◌, ◌≤◌, ◌⊎◌, ◌%◌, ◌↔◌, true, ◌∷◌, [], ◌++◌, length, drop, IsTrue, vec_len, vec_capacity, IfOk, IfErr, IfSome, OnOk, OnErr, Ok, Err, Some, option_map, slice_get, map, ℕ, Contains};
+ghost use Rattle.sop_net.specs.Network.{empty_network, node_of, number_named, place_of, place_named, IsLive, IsNetwork, IsNodeOf, wire_at, wires_of, sources, used_sources, used_wires, switch_input};
+ghost use Rattle.sop_net.specs.Graph.{Within, Reaches, searched};
+ghost use Rattle.sop_net.specs.Steps.{added_node, with_node, set_node, wired_node, removed_node, unwired};
+ghost use Rattle.sop_model.specs.Geometry.{is_name};
 ghost use Rattle.sop_net.specs.Needs.{needed};
 
+use crate::edit::{staged, staged_pairs};
+use crate::input::input_below;
 use crate::kind::NodeType;
+use crate::name::is_name;
+use crate::needs::needs_of;
 use crate::net_end::NetEnd;
 use crate::node::{Node, NodeId, Parms};
-use sop_outside::{Text, TextList};
-use std::alloc::Global;
+use crate::order::{put_order, reordered, take_out};
+use crate::place::place;
+use indexmap::IndexSet;
+use sop_outside::TextList;
+use std::alloc::{AllocError, Global};
 use std::marker::Model;
 
 /// A network of at most 1,024 nodes, whose wires never go in a circle.
@@ -17,16 +25,25 @@ use std::marker::Model;
 /// A refused call leaves it as it was. `Memory` comes for want of memory alone.
 #[derive(Debug, Drop)]
 pub struct Net {
+    alloc: Global,
+    nodes: Vec<Node>,
+    /// The nodes' names, at their places.
+    names: IndexSet<String>,
+    /// The nodes, each behind all that it takes from.
+    order: Vec<NodeId>,
     added: u64,
 }
 
 impl Model for Net {
-    ghost use Rattle.std.specs.Prelude.{[]};
+    ghost use Rattle.std.specs.Prelude.{map, string_bytes};
     ghost use Rattle.sop_net.specs.Network.{Network};
+    ghost use Rattle.sop_net.specs.Order.{IsKept};
 
     ghost Value = { Network };
 
-    ghost view = { λ net. record { nodes = []; added = net.added } };
+    ghost view = { λ net. record { nodes = net.nodes.items; added = net.added } };
+
+    ghost invariant = { λ net. IsKept net.nodes.items (map string_bytes net.names.keys) net.order.items net.added };
 }
 
 impl Net {
@@ -34,7 +51,13 @@ impl Net {
     pub fn new(alloc: Global) -> Net
         ensures { result ≡ empty_network }
     {
-        Net { added: 0 }
+        Net {
+            alloc,
+            nodes: Vec::new(alloc),
+            names: IndexSet::new(alloc),
+            order: Vec::new(alloc),
+            added: 0,
+        }
     }
 
     /// Adds a node with default parameters and no wire, of the type that `kind` names.
@@ -45,7 +68,43 @@ impl Net {
         ensures refused { IfErr result (λ end. (end ≡ NetEnd.Memory) ⊎ (added_node self.old kind.now name.now ≡ Err end)) }
         ensures err { OnErr result (self.new ≡ self.old) }
     {
-        Err(NetEnd::Memory)
+        if !is_name(name.as_bytes()) {
+            return Err(NetEnd::BadName);
+        }
+        if self.place_named(name).is_some() {
+            return Err(NetEnd::NameTaken);
+        }
+        let Some(kind) = NodeType::of_word(kind) else {
+            return Err(NetEnd::NoType);
+        };
+        if self.nodes.len() >= 1024 || self.added == u64::MAX {
+            return Err(NetEnd::Limit);
+        }
+        match self.push_node(kind, name) {
+            Ok(id) => Ok(id),
+            Err(AllocError) => Err(NetEnd::Memory),
+        }
+    }
+
+    /// Adds a node of a new name, where there is room for it.
+    fn push_node(&mut self, kind: NodeType, name: &str) -> Result<NodeId, AllocError>
+        requires name { IsTrue (is_name name.now) }
+        requires free { place_named self.old.nodes name.now ≡ None }
+        requires few { length self.old.nodes < 1024 }
+        requires added { self.old.added < 18446744073709551615 }
+        ensures ok { IfOk result (λ id. (self.new ≡ with_node self.old kind name.now) × (id ≡ self.old.added)) }
+        ensures err { OnErr result (self.new ≡ self.old) }
+    {
+        let id = NodeId::of_number(self.added);
+        let node = Node::new(self.alloc, id, kind, name)?;
+        let key = String::from_str(self.alloc, name)?;
+        self.nodes.reserve(1)?;
+        self.order.reserve(1)?;
+        self.names.insert(key)?;
+        push_reserved(&mut self.nodes, node);
+        push_reserved(&mut self.order, id);
+        self.added += 1;
+        Ok(id)
     }
 
     /// Sets a parameter of a node.
@@ -56,7 +115,16 @@ impl Net {
         ensures refused { IfErr result (λ end. (end ≡ NetEnd.Memory) ⊎ (set_node self.old node.now (parm.now ∷ value.now ∷ []) ≡ Err end)) }
         ensures err { OnErr result (self.new ≡ self.old) }
     {
-        Err(NetEnd::Memory)
+        let Some(at) = self.place_named(node) else {
+            return Err(NetEnd::NoNode);
+        };
+        let edit = match staged(self.alloc, self.nodes[at].kind, parm, value) {
+            Ok(edit) => edit,
+            Err(end) => return Err(end),
+        };
+        let node = &mut self.nodes[at];
+        node.parms.set(edit.at, edit.text);
+        Ok(())
     }
 
     /// Sets parameters of a node: `pairs` has a parameter and its text in turn, an even number of texts. All are judged before the first is
@@ -69,7 +137,16 @@ impl Net {
         ensures refused { IfErr result (λ end. (end ≡ NetEnd.Memory) ⊎ (set_node self.old node.now pairs.now ≡ Err end)) }
         ensures err { OnErr result (self.new ≡ self.old) }
     {
-        Err(NetEnd::Memory)
+        let Some(at) = self.place_named(node) else {
+            return Err(NetEnd::NoNode);
+        };
+        let edits = match staged_pairs(self.alloc, self.nodes[at].kind, pairs.as_slice()) {
+            Ok(edits) => edits,
+            Err(end) => return Err(end),
+        };
+        let node = &mut self.nodes[at];
+        node.parms.edit(edits);
+        Ok(())
     }
 
     /// Wires the node `source` into an input of a node. A former wire there is replaced.
@@ -80,7 +157,25 @@ impl Net {
         ensures refused { IfErr result (λ end. (end ≡ NetEnd.Memory) ⊎ (wired_node self.old node.now index.now source.now ≡ Err end)) }
         ensures err { OnErr result (self.new ≡ self.old) }
     {
-        Err(NetEnd::Memory)
+        let Some(at) = self.place_named(node) else {
+            return Err(NetEnd::NoNode);
+        };
+        let Some(source_at) = self.place_named(source) else {
+            return Err(NetEnd::NoNode);
+        };
+        let target = &self.nodes[at];
+        let Some(input) = input_below(index.as_bytes(), target.wires.len()) else {
+            return Err(NetEnd::BadInput);
+        };
+        let (target, source) = (target.number, self.nodes[source_at].number);
+        let order = match reordered(self.alloc, &self.nodes, &self.order, target, source) {
+            Ok(order) => order,
+            Err(end) => return Err(end),
+        };
+        put_order(&mut self.order, order);
+        let node = &mut self.nodes[at];
+        node.wires.set(input, source);
+        Ok(())
     }
 
     /// Removes a node and all wires that touch it. The only refusal is `NoNode`.
@@ -89,15 +184,41 @@ impl Net {
         ensures refused { IfErr result (λ end. (end ≡ NetEnd.Memory) ⊎ (removed_node self.old node.now ≡ Err end)) }
         ensures err { OnErr result (self.new ≡ self.old) }
     {
-        Err(NetEnd::Memory)
+        let Some(at) = self.place_named(node) else {
+            return Err(NetEnd::NoNode);
+        };
+        let removed = self.nodes.remove(at);
+        let _name = self.names.shift_remove_index(at);
+        take_out(&mut self.order, removed.number);
+        unwire(&mut self.nodes, removed.number);
+        Ok(())
     }
 
     /// The node of this name. It takes no memory, as none of the reads does.
     pub fn find(&self, name: &str) -> Option<NodeId>
         ensures { result ≡ number_named self.now.nodes name.now }
     {
-        let _added = self.added;
-        None
+        match self.place_named(name) {
+            Some(at) => Some(self.nodes[at].number),
+            None => None,
+        }
+    }
+
+    /// The place of the node of this name.
+    fn place_named(&self, name: &str) -> Option<usize>
+        ensures place { result ≡ place_named self.now.nodes name.now }
+        ensures within { IfSome result (λ at. at < length self.now.nodes) }
+    {
+        self.names.get_index_of(name)
+    }
+
+    /// A node that stands.
+    fn at(&self, node: NodeId) -> &Node
+        requires { IsLive self.now.nodes node }
+        ensures found { node_of self.now.nodes node ≡ Some result.now }
+        ensures fits { IsNodeOf result.now }
+    {
+        &self.nodes[place(&self.nodes, node)]
     }
 
     /// The name of a node that stands.
@@ -105,8 +226,7 @@ impl Net {
         requires { IsLive self.now.nodes node }
         ensures { option_map (λ n. n.name) (node_of self.now.nodes node) ≡ Some result.now }
     {
-        let _added = self.added;
-        unreachable!()
+        self.at(node).name.as_str()
     }
 
     /// The parameters of a node that stands.
@@ -114,8 +234,7 @@ impl Net {
         requires { IsLive self.now.nodes node }
         ensures { option_map (λ n. n.parms) (node_of self.now.nodes node) ≡ Some result.now }
     {
-        let _added = self.added;
-        unreachable!()
+        &self.at(node).parms
     }
 
     /// The type of a node that stands.
@@ -123,8 +242,7 @@ impl Net {
         requires { IsLive self.now.nodes node }
         ensures { option_map (λ n. n.kind) (node_of self.now.nodes node) ≡ Some result }
     {
-        let _added = self.added;
-        unreachable!()
+        self.at(node).kind
     }
 
     /// The source that is wired into an input of a node that stands.
@@ -132,8 +250,7 @@ impl Net {
         requires { IsLive self.now.nodes node }
         ensures { result ≡ wire_at (wires_of (node_of self.now.nodes node)) input }
     {
-        let _added = self.added;
-        unreachable!()
+        self.at(node).wires.source(input)
     }
 
     /// The source of a used wire: of a switch, `i` 0 is the wire into the input that it takes; of every other node, `i` is the input number.
@@ -141,27 +258,27 @@ impl Net {
         requires { IsLive self.now.nodes node }
         ensures { result ≡ wire_at (used_wires (node_of self.now.nodes node)) i }
     {
-        let _added = self.added;
-        unreachable!()
+        match self.at(node).used_wires().get(i as usize) {
+            Some(wire) => *wire,
+            None => None,
+        }
     }
 
-    /// The input that a switch takes, 0 to 31.
+    /// The input that a switch takes, 0 to 31. The node stands and is a switch.
     pub fn switch_input(&self, node: NodeId) -> u32
         requires live { IsLive self.now.nodes node }
         requires switch { option_map (λ n. n.kind) (node_of self.now.nodes node) ≡ Some NodeType.Switch }
         ensures value { option_map switch_input (node_of self.now.nodes node) ≡ Some result }
         ensures range { result < 32 }
     {
-        let _added = self.added;
-        unreachable!()
+        self.at(node).switch_input() as u32
     }
 
     /// The number of nodes.
     pub fn nodes(&self) -> u32
         ensures { result ≡ length self.now.nodes }
     {
-        let _added = self.added;
-        0
+        self.nodes.len() as u32
     }
 
     /// Node `i` in order of making, from 0.
@@ -169,8 +286,7 @@ impl Net {
         requires { i < length self.now.nodes }
         ensures { option_map (λ n. n.number) (slice_get self.now.nodes i) ≡ Some result }
     {
-        let _added = self.added;
-        unreachable!()
+        self.nodes[i as usize].number
     }
 
     /// The place of a node that stands in the order of making, from 0.
@@ -178,8 +294,7 @@ impl Net {
         requires { IsLive self.now.nodes node }
         ensures { place_of self.now.nodes node ≡ Some result }
     {
-        let _added = self.added;
-        unreachable!()
+        place(&self.nodes, node) as u32
     }
 
     /// Writes the first `file` node of each file name that the cook of `node` needs, and answers how many there are: depth first over used
@@ -191,8 +306,7 @@ impl Net {
         ensures few { result ≤ 1024 }
         ensures written { into.new ≡ needed self.now.nodes node ++ drop result into.old }
     {
-        let _added = self.added;
-        unreachable!()
+        needs_of(self, node, into)
     }
 
     /// What holds of every network: it has at most 1,024 nodes of distinct names, each with texts that its parameters take, each wire comes
@@ -205,6 +319,34 @@ impl Net {
         ensures within_used { (x : ℕ) → IsLive self.now.nodes x → Within (used_sources self.now.nodes) (length self.now.nodes) x }
         ensures used_live { (x y : ℕ) → Contains (used_sources self.now.nodes x) y → IsLive self.now.nodes y }
     {
-        let _added = self.added;
+        let _ = &self.order;
+    }
+
+    /// The law that `Cycle` comes exactly where the node is the source or upstream of it: as far as the number of nodes, the search upstream
+    /// finds exactly what is reached by wires. The call does nothing.
+    pub fn search_finds_what_is_reached(&self)
+        ensures { (x y : ℕ) → IsLive self.now.nodes x → (searched (length self.now.nodes) (sources self.now.nodes) x y ≡ true) ↔ Reaches (sources self.now.nodes) x y }
+    {
+        let _ = &self.order;
+    }
+}
+
+/// Appends an item for which room was reserved.
+fn push_reserved<T: Drop>(items: &mut Vec<T>, item: T)
+    requires { vec_len items.old < vec_capacity items.old }
+    ensures { items.new.items ≡ items.old.items ++ item ∷ [] }
+{
+    match items.push(item) {
+        Ok(()) => {}
+        Err(_) => unreachable!(),
+    }
+}
+
+/// Removes all wires from a node.
+fn unwire(nodes: &mut Vec<Node>, source: NodeId)
+    ensures { nodes.new.items ≡ map (unwired source) nodes.old.items }
+{
+    for node in nodes.iter_mut() {
+        node.wires.forget(source);
     }
 }

@@ -1,8 +1,15 @@
 // Nodes, their parameters and their wires.
-ghost use Rattle.std.specs.Prelude.{◌≡◌, ◌<◌, length, slice_get, Some};
+ghost use Rattle.std.specs.Prelude.{◌≡◌, ◌<◌, IfOk, length, map, replicate, slice_get, slice_set, Some, None};
+ghost use Rattle.sop_net.specs.NodeTable.{default_parms};
+ghost use Rattle.sop_net.specs.Edits.{edited, AreWithin};
+ghost use Rattle.sop_net.specs.Network.{wire_at};
+ghost use Rattle.sop_net.specs.Steps.{unless_from};
 
+use crate::edit::Edit;
 use crate::kind::NodeType;
-use sop_outside::{Items, Text, TextList};
+use crate::value::read_whole;
+use sop_outside::Text;
+use std::alloc::{AllocError, Global};
 use std::marker::Model;
 
 /// Names a node by the number of nodes that were added before it. A node keeps it when others are removed, and none is given twice.
@@ -21,13 +28,97 @@ impl Model for NodeId {
     ghost inverse = { λ n. record { number = n } };
 }
 
+impl NodeId {
+    /// The name of the node that is added behind so many.
+    pub(crate) fn of_number(number: u64) -> NodeId
+        ensures { result ≡ number }
+    {
+        NodeId { number }
+    }
+
+    pub(crate) fn number(self) -> u64
+        ensures { result ≡ self }
+    {
+        self.number
+    }
+}
+
 /// The wires of a node by input number: the source of each, or none.
-pub type WireList = Items<Option<NodeId>>;
+#[derive(Debug, Drop)]
+pub struct WireList {
+    sources: Vec<Option<NodeId>>,
+}
+
+impl Model for WireList {
+    ghost use Rattle.std.specs.Prelude.{List, ℕ, Option};
+
+    ghost Value = { List (Option ℕ) };
+
+    ghost view = { λ wires. wires.sources.items };
+}
+
+impl WireList {
+    /// So many inputs without a wire.
+    pub(crate) fn unwired(alloc: Global, inputs: u32) -> Result<WireList, AllocError>
+        ensures { IfOk result (λ wires. wires ≡ replicate inputs None) }
+    {
+        let sources = vec![in alloc; None; inputs as usize]?;
+        Ok(WireList { sources })
+    }
+
+    /// The source that is wired into an input.
+    pub(crate) fn source(&self, input: u32) -> Option<NodeId>
+        ensures { result ≡ wire_at self.now input }
+    {
+        match self.sources.get(input as usize) {
+            Some(source) => *source,
+            None => None,
+        }
+    }
+
+    pub(crate) fn as_slice(&self) -> &[Option<NodeId>]
+        ensures { result.now ≡ self.now }
+    {
+        self.sources.as_slice()
+    }
+
+    pub(crate) fn len(&self) -> usize
+        ensures { result ≡ length self.now }
+    {
+        self.sources.len()
+    }
+
+    pub(crate) fn set(&mut self, input: usize, source: NodeId)
+        requires { input < length self.old }
+        ensures { self.new ≡ slice_set self.old input (Some source) }
+    {
+        self.sources[input] = Some(source);
+    }
+
+    /// Removes all wires from `source`.
+    pub(crate) fn forget(&mut self, source: NodeId)
+        ensures { self.new ≡ map (unless_from source) self.old }
+    {
+        for wire in self.sources.iter_mut() {
+            *wire = unless_from(*wire, source);
+        }
+    }
+}
+
+/// A wire, unless it comes from `source`.
+fn unless_from(wire: Option<NodeId>, source: NodeId) -> Option<NodeId>
+    ensures { result ≡ unless_from source wire }
+{
+    match wire {
+        Some(from) if from == source => None,
+        _ => wire,
+    }
+}
 
 /// The texts of a node's parameters, in the order of its type's.
 #[derive(Debug, Drop)]
 pub struct Parms {
-    texts: TextList,
+    texts: Vec<Text>,
 }
 
 impl Model for Parms {
@@ -35,7 +126,7 @@ impl Model for Parms {
 
     ghost Value = { List (List ℕ) };
 
-    ghost view = { λ p. p.texts };
+    ghost view = { λ p. p.texts.items };
 }
 
 impl Parms {
@@ -44,7 +135,36 @@ impl Parms {
         requires { i < length self.now }
         ensures { slice_get self.now i ≡ Some result.now }
     {
-        self.texts.get(i as usize).as_str()
+        self.texts[i as usize].as_str()
+    }
+
+    /// The parameters of a new node.
+    pub(crate) fn defaults(alloc: Global, kind: NodeType) -> Result<Parms, AllocError>
+        ensures { IfOk result (λ parms. parms ≡ default_parms kind) }
+    {
+        let rows = kind.row().parms;
+        let mut texts = Vec::with_capacity(alloc, rows.len())?;
+        for parm in rows {
+            texts.push(Text::from_str(alloc, parm.default)?)?;
+        }
+        Ok(Parms { texts })
+    }
+
+    pub(crate) fn set(&mut self, i: usize, text: Text)
+        requires { i < length self.old }
+        ensures { self.new ≡ slice_set self.old i text }
+    {
+        self.texts[i] = text;
+    }
+
+    /// Carries out edits in turn, without taking memory.
+    pub(crate) fn edit(&mut self, edits: Vec<Edit>)
+        requires { AreWithin (length self.old) edits.items }
+        ensures { self.new ≡ edited self.old edits.items }
+    {
+        for edit in edits {
+            self.texts[edit.at] = edit.text;
+        }
     }
 }
 
@@ -56,4 +176,53 @@ pub struct Node {
     pub kind: NodeType,
     pub parms: Parms,
     pub wires: WireList,
+}
+
+impl Node {
+    ghost use Rattle.sop_net.specs.Network.{new_node, IsNodeOf, switch_input, wires_used_by};
+
+    /// A node with default parameters and no wire.
+    pub(crate) fn new(
+        alloc: Global,
+        number: NodeId,
+        kind: NodeType,
+        name: &str,
+    ) -> Result<Node, AllocError>
+        ensures { IfOk result (λ node. node ≡ new_node number kind name.now) }
+    {
+        Ok(Node {
+            number,
+            name: Text::from_str(alloc, name)?,
+            kind,
+            parms: Parms::defaults(alloc, kind)?,
+            wires: WireList::unwired(alloc, kind.inputs())?,
+        })
+    }
+
+    /// The input that a switch takes.
+    pub(crate) fn switch_input(&self) -> usize
+        requires node { IsNodeOf self.now }
+        requires switch { self.now.kind ≡ NodeType.Switch }
+        ensures value { result ≡ switch_input self.now }
+        ensures range { result < 32 }
+    {
+        match read_whole(self.parms.text(0).as_bytes()) {
+            Some(input) => input.unsigned_abs() as usize,
+            None => unreachable!(),
+        }
+    }
+
+    /// The wires that the node uses: of a switch the one into the input that it takes, of every other node all.
+    pub(crate) fn used_wires(&self) -> &[Option<NodeId>]
+        requires { IsNodeOf self.now }
+        ensures { result.now ≡ wires_used_by self.now.kind self.now }
+    {
+        match self.kind {
+            NodeType::Switch => {
+                let input = self.switch_input();
+                &self.wires.as_slice()[input..input + 1]
+            }
+            _ => self.wires.as_slice(),
+        }
+    }
 }

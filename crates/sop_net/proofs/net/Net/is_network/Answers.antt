@@ -1,16 +1,11 @@
-use Rattle.std.proofs.Common.{◌≡◌, ap, sym, length, subst, ◌∙◌, refl}
-use Rattle.sop_net.specs.Network.{IsNetwork}
-use Rattle.sop_net.proofs.StandIn.{none_live, empty, none_used}
+use Rattle.sop_net.proofs.OrderLemmas.{order-within, order-within_used, used-fewer}
 use Rattle.sop_net.proofs.net.Net.is_network.Goals as goal
 
-pub returns-clause-network : goal.returns-clause-network
-returns-clause-network c = subst IsNetwork c.self.view_is (empty _)
-
 pub returns-clause-within : goal.returns-clause-within
-returns-clause-within c = λ x live. absurd (none_live c.args.self.now.nodes x (ap (λ net. net.nodes) c.self.view_is) live)
+returns-clause-within c = rw (← c.self.view_is) (order-within c.self.inside.nodes.items c.self.inside.order.items c.self.invariant.is_order)
 
 pub returns-clause-within_used : goal.returns-clause-within_used
-returns-clause-within_used c = λ x live. absurd (none_live c.args.self.now.nodes x (ap (λ net. net.nodes) c.self.view_is) live)
+returns-clause-within_used c = rw (← c.self.view_is) (order-within_used c.self.inside.nodes.items c.self.inside.order.items c.self.invariant.is_order)
 
 pub returns-clause-used_live : goal.returns-clause-used_live
-returns-clause-used_live c = λ x y contains. absurd (none_used c.args.self.now.nodes x y (ap (λ net. net.nodes) c.self.view_is) contains)
+returns-clause-used_live c = rw (← c.self.view_is) (λ x y i. c.self.invariant.network.live x y (used-fewer c.self.inside.nodes.items x y i))

@@ -1,0 +1,110 @@
+-- A text for a parameter is judged by the parameter's row.
+use Rattle.std.proofs.Common.{◌≡◌, ◌∙◌, sym, ap, subst, refl, ℕ, zero, suc, ◌-◌, ◌<◌, ◌≤◌, List, [], ◌∷◌, ◌++◌, Bool, true, false, IsTrue, length, get_or, take, drop, arith}
+use Rattle.std.specs.Prelude.{Option, None, Some, map, position, bytes_eq, find, slice_get, slice_set, if◌then◌else◌}
+use Rattle.std.proofs.Math.ListN.{get_or-map}
+use Rattle.std.proofs.Math.Seq.{take-length}
+use Rattle.std.proofs.lemmas.Option.{slice_get-get_or}
+use Rattle.sop_net.specs.declared.kind.NodeType.{NodeType}
+use Rattle.sop_net.specs.declared.edit.Edit.{Edit}
+use Rattle.sop_net.specs.declared.net_end.NetEnd.{NetEnd}
+use Rattle.sop_net.specs.declared.net_end.NetEnd.TheVariants.{NoParm, BadValue}
+use Rattle.sop_net.specs.declared.table.Parm as code
+use Rattle.sop_net.specs.Network.{AreValues}
+use Rattle.sop_net.specs.NodeTable.{Parm, parms_of}
+use Rattle.sop_net.specs.ParmValues.{is_value}
+use Rattle.sop_net.specs.Rows.{parm_meant, kind_meant}
+use Rattle.sop_net.specs.Edits.{edited, AreWithin}
+use Rattle.sop_net.specs.Steps.{refusal_of_value, refusal_of_pair, first_of, refusal_of_pairs, set_at, with_pair, with_pairs}
+use Rattle.sop_net.proofs.Searches.{find-position, position-within, find-no_position}
+
+module _ (rows : List code.Parm) (kind : NodeType) (name value : List ℕ) (same : map parm_meant rows ≡ parms_of kind) where
+  pub judged-none : position (λ p. bytes_eq p.name name) (map parm_meant rows) ≡ None → refusal_of_pair kind name value ≡ Some NoParm
+  judged-none none =
+      ap (λ found. refusal_of_value found value)
+      (ap (find (λ p. bytes_eq p.name name)) (sym same) ∙ find-no_position (λ p. bytes_eq p.name name) (map parm_meant rows) none)
+
+  pub judged-some : (at : ℕ) (d : code.Parm) → position (λ p. bytes_eq p.name name) (map parm_meant rows) ≡ Some at
+      → (taken : Bool) → taken ≡ is_value (kind_meant (get_or rows at d).kind) value
+      → refusal_of_pair kind name value ≡ (if taken then None else Some BadValue)
+  judged-some at d some taken is =
+      let within : at < length (map parm_meant rows) = position-within (λ p. bytes_eq p.name name) (map parm_meant rows) at some in
+      ap (λ found. refusal_of_value found value)
+      (ap (find (λ p. bytes_eq p.name name)) (sym same) ∙ find-position (λ p. bytes_eq p.name name) (map parm_meant rows) at some
+      ∙ slice_get-get_or (map parm_meant rows) at (parm_meant d) within ∙ ap Some (get_or-map parm_meant rows at d))
+      ∙ ap (λ b. if b then None else Some BadValue) (sym is)
+
+-- edits so far and pairs left make the whole
+pub record IsStaged (kind : NodeType) (pairs left : List (List ℕ)) (edits : List Edit) : Type 0 where
+  pub refusal : refusal_of_pairs kind left ≡ refusal_of_pairs kind pairs
+  pub texts : (texts : List (List ℕ)) → with_pairs kind (edited texts edits) left ≡ with_pairs kind texts pairs
+  pub within : AreWithin (length (parms_of kind)) edits
+
+edited-push : (texts : List (List ℕ)) (edits : List Edit) (e : Edit) → edited texts (edits ++ e ∷ []) ≡ slice_set (edited texts edits) e.at e.text
+edited-push texts [] e = refl
+edited-push texts (d ∷ edits) e = edited-push (slice_set texts d.at d.text) edits e
+
+within-push : (n : ℕ) (edits : List Edit) (e : Edit) → AreWithin n edits → e.at < n → AreWithin n (edits ++ e ∷ [])
+within-push n [] e w h = (h, tt)
+within-push n (d ∷ edits) e w h = (w.0, within-push n edits e w.1 h)
+
+take-rest : {A : Type 0} (xs : List A) → take (suc (suc (length xs)) - 2) xs ≡ xs
+take-rest xs = let e : suc (suc (length xs)) - 2 ≡ length xs = omega arith in ap (λ k. take k xs) e ∙ take-length xs
+
+staged-on : (kind : NodeType) (pairs rest : List (List ℕ)) (name value : List ℕ) (edits : List Edit) (e : Edit)
+    → IsStaged kind pairs (name ∷ value ∷ rest) edits → refusal_of_pair kind name value ≡ None → position (λ p. bytes_eq p.name name) (parms_of kind) ≡ Some e.at → e.text ≡ value
+    → IsStaged kind pairs rest (edits ++ e ∷ [])
+staged-on kind pairs rest name value edits e s fine at is = record {
+  refusal = ap (λ end. first_of end (refusal_of_pairs kind rest)) (sym fine) ∙ s.refusal;
+  texts = λ texts.
+      ap (λ t. with_pairs kind t rest) (edited-push texts edits e ∙ ap (slice_set (edited texts edits) e.at) is ∙ ap (λ place. set_at place (edited texts edits) value) (sym at))
+      ∙ s.texts texts;
+  within = within-push (length (parms_of kind)) edits e s.within (position-within (λ p. bytes_eq p.name name) (parms_of kind) e.at at);
+}
+
+pub staged-step : (kind : NodeType) (pairs left rest : List (List ℕ)) (name value : List ℕ) (edits : List Edit) (e : Edit)
+    → IsStaged kind pairs left edits → 2 ≤ length left → name ≡ get_or left 0 name → value ≡ get_or left 1 value → rest ≡ take (length left - 2) (drop 2 left)
+    → refusal_of_pair kind name value ≡ None → position (λ p. bytes_eq p.name name) (parms_of kind) ≡ Some e.at → e.text ≡ value
+    → IsStaged kind pairs rest (edits ++ e ∷ [])
+staged-step kind pairs [] rest name value edits e s two n v r fine at is = absurd (omega arith)
+staged-step kind pairs (a ∷ []) rest name value edits e s two n v r fine at is = absurd (omega arith)
+staged-step kind pairs (a ∷ b ∷ more) rest name value edits e s two n v r fine at is =
+    let behind : rest ≡ more = r ∙ take-rest more in
+    let same : a ∷ b ∷ more ≡ name ∷ value ∷ rest = rw (n, v, behind) refl in
+    staged-on kind pairs rest name value edits e (subst (λ l. IsStaged kind pairs l edits) same s) fine at is
+
+-- texts that are set stay texts that their parameters take
+values-set : (parms : List Parm) (texts : List (List ℕ)) (i : ℕ) (p : Parm) (value : List ℕ) → AreValues parms texts → slice_get parms i ≡ Some p → IsTrue (is_value p.kind value) → AreValues parms (slice_set texts i value)
+values-set [] texts i p value v e h = absurd (cc)
+values-set (q ∷ parms) [] i p value v e h = absurd v
+values-set (q ∷ parms) (t ∷ texts) zero p value v e h = (let same : q ≡ p = cc in subst (λ r. IsTrue (is_value r.kind value)) (sym same) h, v.1)
+values-set (q ∷ parms) (t ∷ texts) (suc i) p value v e h = (v.0, values-set parms texts i p value v.1 e h)
+
+pub values-length : (parms : List Parm) (texts : List (List ℕ)) → AreValues parms texts → length texts ≡ length parms
+values-length [] [] v = refl
+values-length [] (t ∷ texts) v = absurd v
+values-length (p ∷ parms) [] v = absurd v
+values-length (p ∷ parms) (t ∷ texts) v = ap suc (values-length parms texts v.1)
+
+values-found : (found : Option Parm) (place : Option ℕ) (parms : List Parm) (texts : List (List ℕ)) (value : List ℕ)
+    → ((i : ℕ) → place ≡ Some i → found ≡ slice_get parms i) → AreValues parms texts → refusal_of_value found value ≡ None → AreValues parms (set_at place texts value)
+values-found found None parms texts value at v fine = v
+values-found None (Some i) parms texts value at v fine = absurd (cc)
+values-found (Some p) (Some i) parms texts value at v fine =
+    values-set parms texts i p value v (sym (at i refl))
+    ((elim (is_value p.kind value) as (λ b. (if b then None else Some BadValue) ≡ None → b ≡ true) [ true ↦ λ e. refl | false ↦ λ e. absurd (cc) ]) fine)
+
+values-pair : (kind : NodeType) (texts : List (List ℕ)) (name value : List ℕ) → AreValues (parms_of kind) texts → refusal_of_pair kind name value ≡ None → AreValues (parms_of kind) (with_pair kind texts name value)
+values-pair kind texts name value v fine =
+    values-found (find (λ p. bytes_eq p.name name) (parms_of kind)) (position (λ p. bytes_eq p.name name) (parms_of kind)) (parms_of kind) texts value
+    (λ i e. find-position (λ p. bytes_eq p.name name) (parms_of kind) i e) v fine
+
+first-none : (a b : Option NetEnd) → first_of a b ≡ None → (a ≡ None) × (b ≡ None)
+first-none None b e = (refl, e)
+first-none (Some end) b e = absurd (cc)
+
+pub values-pairs : (kind : NodeType) (texts pairs : List (List ℕ)) → AreValues (parms_of kind) texts → refusal_of_pairs kind pairs ≡ None → AreValues (parms_of kind) (with_pairs kind texts pairs)
+values-pairs kind texts [] v fine = v
+values-pairs kind texts (name ∷ []) v fine = v
+values-pairs kind texts (name ∷ value ∷ pairs) v fine =
+    let parts = first-none (refusal_of_pair kind name value) (refusal_of_pairs kind pairs) fine in
+    values-pairs kind (with_pair kind texts name value) pairs (values-pair kind texts name value v parts.0) parts.1

@@ -1,0 +1,65 @@
+-- What is read of a node that stands.
+use Rattle.std.proofs.Common.{◌≡◌, Bool, true, false, cond, ◌==◌, ℕ, ◌<◌, ◌≤◌, List, [], ◌∷◌, length, refl, sym, ◌∙◌, ap, subst, arith}
+use Rattle.std.specs.Prelude.{All, Option, None, Some, slice_get, option_map}
+use Rattle.std.proofs.lemmas.List.Elements.{All-head, All-tail}
+use Rattle.sop_net.specs.declared.node.Node.{Node}
+use Rattle.sop_net.specs.declared.kind.NodeType.{NodeType}
+use Rattle.sop_net.specs.declared.kind.NodeType.TheVariants as type
+use Rattle.sop_net.specs.NodeTable.{parms_of, inputs_of}
+use Rattle.sop_net.specs.Network.{node_of, parm_at, used_wires, wires_used_by, AreValues, IsNodeOf}
+
+-- a read of a node that stands
+pub record Read {X : Type 0} (nodes : List Node) (x : ℕ) (read : Node → X) (v : X) : Type 0 where
+  pub node : Node
+  pub found : node_of nodes x ≡ Some node
+  pub is : read node ≡ v
+
+pub read_node : {X : Type 0} (nodes : List Node) (x : ℕ) (read : Node → X) (v : X) → option_map read (node_of nodes x) ≡ Some v → Read nodes x read v
+read_node {X} nodes x read v h = by (node_of nodes x) refl h
+  where
+    by : (found : Option Node) → node_of nodes x ≡ found → option_map read found ≡ Some v → Read nodes x read v
+    by None here e = let no : ⊥ = cc in absurd no
+    by (Some n) here e = record { node = n; found = here; is = let same : read n ≡ v = cc in same }
+
+-- a further read of the node that was found
+pub read_found : {X : Type 0} (nodes : List Node) (x : ℕ) (n : Node) (read : Node → X) (v : X) → node_of nodes x ≡ Some n → option_map read (node_of nodes x) ≡ Some v → read n ≡ v
+read_found {X} nodes x n read v found h = let e : option_map read (Some n) ≡ Some v = sym (ap (option_map read) found) ∙ h in let same : read n ≡ v = cc in same
+
+fits_by : (nodes : List Node) (x : ℕ) (m n : Node) (b : Bool) → IsNodeOf m → cond b (Some m) (node_of nodes x) ≡ Some n → (node_of nodes x ≡ Some n → IsNodeOf n) → IsNodeOf n
+fits_by nodes x m n true here h rest = let same : m ≡ n = cc in subst IsNodeOf same here
+fits_by nodes x m n false here h rest = rest h
+
+pub node_fits : (nodes : List Node) (x : ℕ) (n : Node) → All IsNodeOf nodes → node_of nodes x ≡ Some n → IsNodeOf n
+node_fits [] x n all h = let no : ⊥ = cc in absurd no
+node_fits (m ∷ nodes) x n all h = fits_by nodes x m n (m.number == x) (All-head IsNodeOf m nodes all) h (node_fits nodes x n (All-tail IsNodeOf m nodes all))
+
+some_text : (texts : List (List ℕ)) → AreValues (parms_of type.File) texts → 0 < length texts
+some_text [] h = absurd h
+some_text (text ∷ texts) h = omega arith
+
+-- a file node has a parameter
+pub file_parms : (n : Node) → n.kind ≡ type.File → IsNodeOf n → 0 < length n.parms
+file_parms n kind fits = some_text n.parms (subst (λ k. AreValues (parms_of k) n.parms) kind fits.parms)
+
+pub first_parm : (texts : List (List ℕ)) (text : List ℕ) → slice_get texts 0 ≡ Some text → text ≡ parm_at texts 0
+first_parm [] text h = let no : ⊥ = cc in absurd no
+first_parm (t ∷ texts) text h = let same : text ≡ t = cc in same
+
+pub wires_used : (nodes : List Node) (x : ℕ) (n : Node) (kind : NodeType) → node_of nodes x ≡ Some n → n.kind ≡ kind → used_wires (node_of nodes x) ≡ wires_used_by kind n
+wires_used nodes x n kind found is = ap used_wires found ∙ ap (λ k. wires_used_by k n) is
+
+few_inputs : (kind : NodeType) → inputs_of kind ≤ 32
+few_inputs type.File = omega arith
+few_inputs other = omega arith
+
+few_by : (kind : NodeType) (n : Node) → length n.wires ≤ 32 → length (wires_used_by kind n) ≤ 32
+few_by type.Switch n few = omega arith
+few_by other n few = few
+
+-- no node uses more than 32 wires
+pub few_used : (nodes : List Node) (x : ℕ) → All IsNodeOf nodes → length (used_wires (node_of nodes x)) ≤ 32
+few_used nodes x all = by (node_of nodes x) refl
+  where
+    by : (found : Option Node) → node_of nodes x ≡ found → length (used_wires found) ≤ 32
+    by None here = omega arith
+    by (Some n) here = few_by n.kind n (let few = few_inputs n.kind in let e = (node_fits nodes x n all here).inputs in omega (arith, few, e))

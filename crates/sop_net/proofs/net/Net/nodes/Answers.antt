@@ -1,7 +1,0 @@
-use Rattle.std.proofs.Common.{◌≡◌, ap, sym, length, subst, ◌∙◌, refl}
-use Rattle.sop_net.specs.Network.{IsNetwork}
-use Rattle.sop_net.proofs.StandIn.{none_live, none_at, none_named, empty}
-use Rattle.sop_net.proofs.net.Net.nodes.Goals as goal
-
-pub returns : goal.returns
-returns c = ap length (ap (λ net. net.nodes) c.self.view_is)

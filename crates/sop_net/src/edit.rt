@@ -1,0 +1,67 @@
+// Texts that are staged for the parameters of a node: judged and copied before the first is set.
+ghost use Rattle.std.specs.Prelude.{◌≡◌, ◌<◌, ◌⊎◌, ℕ, List, IfOk, IfErr, Some, None, length, map, position, bytes_eq};
+ghost use Rattle.sop_net.specs.NodeTable.{parms_of};
+ghost use Rattle.sop_net.specs.Rows.{parm_meant};
+ghost use Rattle.sop_net.specs.Edits.{edited, AreWithin};
+ghost use Rattle.sop_net.specs.Steps.{refusal_of_pair, refusal_of_pairs, with_pairs};
+
+use crate::kind::NodeType;
+use crate::net_end::NetEnd;
+use crate::table::Parm;
+use sop_outside::Text;
+use std::alloc::{AllocError, Global};
+
+/// A text for a parameter, which goes by its place.
+#[derive(Drop)]
+pub struct Edit {
+    pub at: usize,
+    pub text: Text,
+}
+
+fn place_of_parm(parms: &[Parm], name: &str) -> Option<usize>
+    ensures { result ≡ position (λ p. bytes_eq p.name name.now) (map parm_meant parms.now) }
+{
+    parms.iter().position(|parm| parm.name == name)
+}
+
+/// A text for a parameter of a type, judged: `NoParm`, then `BadValue`.
+pub fn staged(alloc: Global, kind: NodeType, name: &str, value: &str) -> Result<Edit, NetEnd>
+    ensures ok { IfOk result (λ edit. refusal_of_pair kind name.now value.now ≡ None) }
+    ensures edit { IfOk result (λ edit. (position (λ p. bytes_eq p.name name.now) (parms_of kind) ≡ Some edit.at) × (edit.text ≡ value.now)) }
+    ensures refused { IfErr result (λ end. (end ≡ NetEnd.Memory) ⊎ (refusal_of_pair kind name.now value.now ≡ Some end)) }
+{
+    let parms = kind.row().parms;
+    let Some(at) = place_of_parm(parms, name) else {
+        return Err(NetEnd::NoParm);
+    };
+    let parm = &parms[at];
+    if !parm.kind.takes(value) {
+        return Err(NetEnd::BadValue);
+    }
+    match Text::from_str(alloc, value) {
+        Ok(text) => Ok(Edit { at, text }),
+        Err(AllocError) => Err(NetEnd::Memory),
+    }
+}
+
+/// Texts for parameters of a type, each parameter followed by its text, judged in turn.
+pub fn staged_pairs(alloc: Global, kind: NodeType, pairs: &[Text]) -> Result<Vec<Edit>, NetEnd>
+    ensures ok { IfOk result (λ edits. refusal_of_pairs kind pairs.now ≡ None) }
+    ensures edits { IfOk result (λ edits. (texts : List (List ℕ)) → with_pairs kind texts pairs.now ≡ edited texts edits.items) }
+    ensures within { IfOk result (λ edits. AreWithin (length (parms_of kind)) edits.items) }
+    ensures refused { IfErr result (λ end. (end ≡ NetEnd.Memory) ⊎ (refusal_of_pairs kind pairs.now ≡ Some end)) }
+{
+    let mut edits = Vec::new(alloc);
+    let mut left = pairs;
+    while let [name, value, rest @ ..] = left {
+        let edit = match staged(alloc, kind, name.as_str(), value.as_str()) {
+            Ok(edit) => edit,
+            Err(end) => return Err(end),
+        };
+        if edits.push(edit).is_err() {
+            return Err(NetEnd::Memory);
+        }
+        left = rest;
+    }
+    Ok(edits)
+}
