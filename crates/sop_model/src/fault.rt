@@ -64,6 +64,16 @@ pub enum CookStop {
     Memory,
 }
 
+impl From<AllocError> for CookStop {
+    ghost use Rattle.sop_model.specs.declared.fault.CookStop.TheVariants.{Memory};
+
+    ghost from_gives = { λ _ stop. stop ≡ Memory };
+
+    fn from(_: AllocError) -> Self {
+        CookStop::Memory
+    }
+}
+
 /// Appends a name, a blank and a number.
 fn print_number(name: &str, number: u64, to: &mut Vec<u8>) -> Result<(), AllocError>
     ensures { OnOk result (to.new.items ≡ to.old.items ++ with_number name.now number) }
