@@ -1,0 +1,4 @@
+mod Digits
+mod Marking
+mod Names
+mod Ends

@@ -1,0 +1,4 @@
+pub mod Words
+pub mod Wildcard
+pub mod Selection
+pub mod Marks

@@ -1,0 +1,19 @@
+//! Group patterns: texts that select elements of a class.
+#![tactic(auto)]
+
+mod fault;
+mod marks;
+mod named;
+mod numbers;
+mod pattern;
+mod read;
+mod wildcard;
+mod word;
+
+pub use fault::PatternFault;
+pub use pattern::Pattern;
+pub use wildcard::matches;
+pub use word::{Atom, Effect, Word};
+
+#[cfg(test)]
+mod tests;
