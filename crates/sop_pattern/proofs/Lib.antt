@@ -2,3 +2,5 @@ mod Digits
 mod Marking
 mod Names
 mod Ends
+mod Cycles
+mod Groups
