@@ -4,3 +4,4 @@ mod Names
 mod Ends
 mod Cycles
 mod Groups
+mod Reading

@@ -17,9 +17,13 @@ use Rattle.sop_pattern.specs.declared.word.Word.{Word}
 abbrev pub is_blank : ℕ → Bool
 is_blank b = (b == 32) || (b == 9) || (b == 13) || (b == 10)
 
+abbrev pub is_filled : List ℕ → Bool
+is_filled [] = false
+is_filled (b ∷ text) = true
+
 -- The words of a text are its longest runs of bytes that aren't blanks.
 abbrev pub words_of : List ℕ → List (List ℕ)
-words_of text = filter (λ piece. nat_lt 0 (length piece)) (slice_split is_blank text)
+words_of text = filter is_filled (slice_split is_blank text)
 
 -- A number is 1 to 18 digits.
 abbrev pub number_in : List ℕ → Option ℕ

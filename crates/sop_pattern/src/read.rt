@@ -1,7 +1,9 @@
 // Words read from the text of a pattern.
-ghost use Rattle.std.specs.Prelude.{◌≡◌, IfOk, IfErr, Ok};
+ghost use Rattle.std.specs.Prelude.{◌≡◌, ◌≤◌, length, true, IfOk, IfErr, Ok};
+ghost use Rattle.std.specs.List.{list_all};
 ghost use Rattle.sop_pattern.specs.Words.{is_blank, atom_of, word_of, with_effect, pattern_of};
 ghost use Rattle.sop_pattern.specs.Selection.{IsReadFault};
+ghost use Rattle.sop_pattern.specs.Marks.{has_period};
 
 use crate::fault::PatternFault;
 use crate::named::read_named;
@@ -11,8 +13,11 @@ use std::alloc::{AllocError, Global};
 
 /// The words of a text, or the number of its first bad word.
 pub fn read_words(alloc: Global, text: &[u8]) -> Result<Vec<Word>, PatternFault>
+    requires { length text.now ≤ 1024 }
     ensures ok { IfOk result (λ words. pattern_of text.now ≡ Ok words.items) }
     ensures err { IfErr result (IsReadFault (pattern_of text.now)) }
+    ensures periods { IfOk result (λ words. list_all (λ w. has_period w.atom) words.items ≡ true) }
+    ensures few { IfOk result (λ words. length words.items ≤ 1025) }
 {
     let mut words = Vec::new(alloc);
     for piece in text.split(|b| is_blank(*b)) {
