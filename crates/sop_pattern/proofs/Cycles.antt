@@ -48,7 +48,6 @@ module _ (first last taken every len most : ℕ) (to : Bool) (start end stop aft
     (inside : start < end) (some : 0 < every) (length_now : length now ≡ length old) (length_old : length old ≡ len)
     (run : (k : ℕ) → k < length now → get_or next k false ≡ marked to (nat_le start k && nat_lt k stop) (get_or now k false))
     (before : Cycled first last taken every end to start old now) where
-
   kept : (k : ℕ) → k < length old → (nat_le start k && nat_lt k stop) ≡ false → get_or next k false ≡ get_or now k false
   kept k lt out = run k (omega arith) ∙ ap (λ b. marked to b (get_or now k false)) out
 

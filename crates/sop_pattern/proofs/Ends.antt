@@ -75,10 +75,10 @@ pub tries_star : (pattern name behind from more left : List ℕ) → Tries patte
 tries_star pattern name behind from more left t =
     let any = list_any (matches more) (ends_of left) in
     let covers : matches_later behind from ≡ true → any ≡ true = λ h.
-        let (k, is) = later_at (matches behind) from h in
-        let (j, here) = end_at (matches more) (drop k left) (t.ahead k is) in
-        let (i, at) = drop_drop j k left in
-        at_end (matches more) left i (ap (matches more) (sym at) ∙ here) in
+    let (k, is) = later_at (matches behind) from h in
+    let (j, here) = end_at (matches more) (drop k left) (t.ahead k is) in
+    let (i, at) = drop_drop j k left in
+    at_end (matches more) left i (ap (matches more) (sym at) ∙ here) in
     record {
       same = t.same ∙ absorbed any (matches_later behind from) covers ∙ whole_or_later more left;
       ahead = λ k h. h;

@@ -46,7 +46,6 @@ marked_twice to false b flag = refl
 
 module _ (passes : List ℕ → Bool) (g : Geo) (class : Class) (i : ℕ) (name : List ℕ) (at : slice_get (heads_of g class).groups i ≡ Some name) (e : ℕ) (to old now : Bool)
     (before : now ≡ marked to (some_flag passes (take i (heads_of g class).groups) (flags_of g class e)) old) where
-
   with_next : some_flag passes (take (i + 1) (heads_of g class).groups) (flags_of g class e)
       ≡ (some_flag passes (take i (heads_of g class).groups) (flags_of g class e) || (passes name && member_of g class i e))
   with_next =

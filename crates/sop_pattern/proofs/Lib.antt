@@ -5,3 +5,4 @@ mod Ends
 mod Cycles
 mod Groups
 mod Reading
+mod Examples
