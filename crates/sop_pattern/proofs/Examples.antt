@@ -1,5 +1,5 @@
 -- The definitions, computed on small patterns over ten points in three groups.
-use Rattle.std.proofs.Common.{◌≡◌, ℕ, zero, suc, List, [], ◌∷◌, ◌++◌, length, Bool, true, false, refl, Result, Ok, Err}
+use Rattle.std.proofs.Common.{◌≡◌, ℕ, suc, List, [], ◌∷◌, ◌++◌, Bool, true, false, refl, Result, Ok, Err}
 use Rattle.std.specs.Prelude.{codes, map, replicate}
 use Rattle.std.specs.List.{range_with_len}
 use Rattle.sop_model.specs.declared.geo.Geo.{Geo}

@@ -5,4 +5,6 @@ mod Ends
 mod Cycles
 mod Groups
 mod Reading
+mod Cuts
+mod Spelled
 mod Examples

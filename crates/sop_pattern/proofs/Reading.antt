@@ -1,8 +1,7 @@
 -- Words of a text, read one by one.
 use Rattle.std.proofs.Common.{◌≡◌, ℕ, suc, ◌+◌, ◌<◌, Bool, true, false, List, [], ◌∷◌, ◌++◌, length, get_or, drop, drop-cons, add-one, append_assoc, append-nil, length-append, refl, sym, ap, ◌∙◌, Option, Some, None, arith}
-use Rattle.std.specs.Prelude.{◌≤◌, codes, bytes_eq, nat_lt, ◌&&◌, ◌==◌, if◌then◌else◌, Result, Ok, Err, filter}
+use Rattle.std.specs.Prelude.{◌≤◌, codes, bytes_eq, nat_lt, ◌==◌, if◌then◌else◌, Result, Ok, Err, filter}
 use Rattle.std.specs.List.{list_all, slice_split}
-use Rattle.std.specs.Option.{option_map}
 use Rattle.std.proofs.lemmas.Bool.{and_parts, and_from, eqb-true}
 use Rattle.std.proofs.lemmas.List.{drop_all}
 use Rattle.std.proofs.lemmas.List.Splits.{length-slice_split}

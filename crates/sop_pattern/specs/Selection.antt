@@ -2,7 +2,7 @@
 --
 -- Each word's atom holds some elements. The words are read from left to right onto no element: a word adds what its atom holds, behind `!`
 -- all but that, and behind `^` it takes it away. A pattern without words selects all elements.
-use Rattle.std.specs.Prelude.{◌≡◌, ℕ, ◌-◌, ◌%◌, Bool, true, false, if◌then◌else◌, ◌&&◌, ◌||◌, not, nat_le, nat_lt, ◌==◌, List, [], ◌∷◌, map, Option, None, Some, is_some, unwrap_or, Result, Ok, Err, position, slice_get}
+use Rattle.std.specs.Prelude.{◌≡◌, ℕ, ◌-◌, ◌%◌, Bool, true, false, ◌&&◌, ◌||◌, not, nat_le, nat_lt, ◌==◌, List, [], ◌∷◌, map, Option, None, Some, is_some, unwrap_or, Result, Ok, Err, position, slice_get}
 use Rattle.std.specs.List.{range_with_len}
 use Rattle.std.specs.Option.{option_map}
 use Rattle.std.specs.Str.{bytes_eq}

@@ -2,7 +2,7 @@
 --
 -- Words are separated by blanks. A word is an atom, behind `!` or `^` or neither. An atom is numbers, `*`, the name of a group, or a text
 -- with `*` and `?` that stands for names of groups.
-use Rattle.std.specs.Prelude.{ℕ, zero, suc, Bool, true, false, if◌then◌else◌, ◌&&◌, ◌||◌, not, nat_le, nat_lt, ◌==◌, List, [], ◌∷◌, length, filter, Option, None, Some, is_some, Result, Ok, Err, position, codes, bytes_eq}
+use Rattle.std.specs.Prelude.{ℕ, suc, Bool, true, false, if◌then◌else◌, ◌&&◌, ◌||◌, nat_le, nat_lt, ◌==◌, List, [], ◌∷◌, length, filter, Option, None, Some, is_some, Result, Ok, Err, position, codes, bytes_eq}
 use Rattle.std.specs.List.{slice_split, list_all, before_first, after_first}
 use Rattle.std.specs.Option.{option_map}
 use Rattle.sop_fixed.specs.Numerals.{is_some_digits, number_of}

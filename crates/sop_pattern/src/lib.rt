@@ -2,6 +2,7 @@
 #![tactic(auto)]
 
 mod fault;
+mod law;
 mod marks;
 mod named;
 mod numbers;
@@ -11,6 +12,7 @@ mod wildcard;
 mod word;
 
 pub use fault::PatternFault;
+pub use law::atoms_are_spelled;
 pub use pattern::Pattern;
 pub use wildcard::matches;
 pub use word::{Atom, Effect, Word};

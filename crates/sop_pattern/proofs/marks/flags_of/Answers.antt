@@ -1,4 +1,4 @@
-use Rattle.std.proofs.Common.{ap, sym, ◌∙◌, arith, get_or, drop, false, length}
+use Rattle.std.proofs.Common.{ap, sym, ◌∙◌, arith, get_or, false}
 use Rattle.std.proofs.lemmas.List.{drop_all}
 use Rattle.std.proofs.lemmas.List.FromFn.{fill_by_all}
 use Rattle.sop_model.specs.Geometry.{count_of}

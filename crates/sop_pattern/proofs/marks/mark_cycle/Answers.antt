@@ -1,4 +1,4 @@
-use Rattle.std.proofs.Common.{refl, sym, ◌∙◌, ap, length}
+use Rattle.std.proofs.Common.{refl, ◌∙◌, ap, length}
 use Rattle.std.specs.Prelude.{min, ◌+◌}
 use Rattle.sop_pattern.proofs.Cycles.{cycled_more}
 use Rattle.sop_pattern.proofs.marks.mark_cycle.Goals as goal

@@ -1,4 +1,4 @@
-use Rattle.std.proofs.Common.{Err, ◌≡◌, ℕ, ◌+◌, length, get_or, ap, sym, ◌∙◌, subst, arith, rules, ◌<◌, length-append, [], ◌∷◌}
+use Rattle.std.proofs.Common.{Err, ◌≡◌, ◌+◌, length, ap, sym, ◌∙◌, subst, arith, rules, length-append, [], ◌∷◌}
 use Rattle.std.specs.List.{slice_split}
 use Rattle.std.proofs.lemmas.Iterator.Splits.{YieldsList-from_slice_split}
 use Rattle.std.proofs.lemmas.Iterator.Consumers.{YieldsList-at, YieldsList-turn, YieldsList-end}
