@@ -2,7 +2,7 @@
 ghost use Rattle.std.specs.Prelude.{◌≡◌, ℕ, ◌<◌, ◌≤◌, ◌&&◌, nat_le, nat_lt, true, false, length, map, IfOk, OnOk, position, slice_index_or};
 ghost use Rattle.std.specs.List.{list_all, range_with_len};
 ghost use Rattle.sop_model.specs.Geometry.{IsReadable, heads_of, count_of};
-ghost use Rattle.sop_pattern.specs.Selection.{holds, selects, selected_by, selected_after, lacks_group, is_member};
+ghost use Rattle.sop_pattern.specs.Selection.{holds, selects, selected_by, lacks_group, is_member};
 ghost use Rattle.sop_pattern.specs.Marks.{marked, is_in_cycle, has_period, names_group, member_of};
 
 use crate::wildcard::matches;

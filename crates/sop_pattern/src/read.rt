@@ -1,7 +1,7 @@
 // Words read from the text of a pattern.
 ghost use Rattle.std.specs.Prelude.{◌≡◌, ◌≤◌, length, true, IfOk, IfErr, Ok};
 ghost use Rattle.std.specs.List.{list_all};
-ghost use Rattle.sop_pattern.specs.Words.{is_blank, atom_of, word_of, with_effect, pattern_of};
+ghost use Rattle.sop_pattern.specs.Words.{is_blank, atom_of, word_of, pattern_of};
 ghost use Rattle.sop_pattern.specs.Selection.{IsReadFault};
 ghost use Rattle.sop_pattern.specs.Marks.{has_period};
 

@@ -2,7 +2,7 @@ ghost use Rattle.std.specs.Prelude.{◌≡◌, [], ◌∷◌, true, codes, IfOk}
 ghost use Rattle.sop_model.specs.declared.value.Value.TheVariants as value;
 ghost use Rattle.sop_model.specs.Geometry.{empty_row, no_heads, position_head, IsReadable};
 
-use crate::{Pattern, PatternFault, matches};
+use crate::{Pattern, PatternFault, atoms_are_spelled, matches};
 use sop_fixed::{Real, Vec3};
 use sop_model::{
     Class, Corner, CornerList, FlagList, Geo, HeadSet, Prim, PrimList, Row, RowList, Value,
@@ -122,5 +122,6 @@ fn faults_name_their_word(rt: HostRuntime) -> Result<(), Fail> {
 #[test]
 fn names_match(rt: HostRuntime) -> Result<(), Fail> {
     assert!(rt; matches(b"a*b*c", b"a_b_b_c") && !matches(b"a*b*c", b"a_c_b"));
+    atoms_are_spelled(b"a*b*c");
     Ok(())
 }
