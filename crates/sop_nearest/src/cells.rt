@@ -119,9 +119,14 @@ impl Reach {
         }
     }
 
-    /// How many rows of cells these are, or 2^64 - 1 where they are more.
-    pub(crate) fn rows(self) -> u64 {
-        self.x.len().saturating_mul(self.y.len())
+    /// Whether these cells are found in fewer steps than so many points are measured. A row takes two binary searches.
+    pub(crate) fn is_quicker(self, points: u64) -> bool {
+        let steps = 2 * u64::from(u64::BITS - points.leading_zeros());
+        self.x
+            .len()
+            .saturating_mul(self.y.len())
+            .saturating_mul(steps)
+            < points
     }
 
     /// Adds the hits in these cells.

@@ -7,3 +7,6 @@ pub mod near;
 mod places;
 
 pub use near::Near;
+
+#[cfg(test)]
+mod tests;

@@ -13,7 +13,7 @@ use sop_model::GeoView;
 use std::alloc::{AllocError, Global};
 use std::marker::Model;
 
-/// The points of a geometry by their places, seen as the list of these in the order of the points' numbers. They are kept in cells of a grid.
+/// The points of a geometry in the cells of a grid, seen as the list of their places in the order of their numbers.
 #[derive(Debug, Drop)]
 pub struct Near {
     side: u64,
@@ -37,8 +37,8 @@ impl Model for Near {
 impl Near {
     ghost use Rattle.sop_nearest.specs.Cells.{IsAllHits};
 
-    /// The points of a geometry, in cells as wide as `radius` along each axis, or 0.000001 where that is more. Questions with a radius up to it are
-    /// the quickest. Takes memory for each point.
+    /// The points of a geometry, in cells as wide as `radius` along each axis, or as 0.000001 where that is more. A question with
+    /// a radius of at most that width looks into at most 27 cells; `near` answers any other radius as exactly.
     pub fn new<V: GeoView>(alloc: Global, view: &V, radius: Real) -> Result<Near, AllocError>
         requires { IsReadable (V.geo view.now) }
         ensures { IfOk result (λ near. near ≡ places_of (V.geo view.now)) }
@@ -53,8 +53,8 @@ impl Near {
         })
     }
 
-    /// The numbers of the points at most `radius` from `center`, by their distance and then by their number. Distances are compared by their squares,
-    /// exactly. The radius may be greater than the one of `new`.
+    /// The numbers of the points at most `radius` from `center`, by their distance and then by their number. Distances are
+    /// compared by their squares, exactly.
     pub fn near(&self, alloc: Global, center: Vec3, radius: Real) -> Result<Vec<u32>, AllocError>
         requires { pos 0 ≤ℤ radius }
         ensures nearby { IfOk result (λ found. IsNearby self.now center (unsigned_abs radius) found.items) }
@@ -66,14 +66,14 @@ impl Near {
         numbers_of(alloc, &hits)
     }
 
-    /// The hits of a ball, in whatever order. The points are asked by the cells in reach where these are in fewer rows than there are points.
+    /// The hits of a ball, in whatever order: by the cells in reach, or among all points where that is quicker.
     fn hits(&self, alloc: Global, ball: &Ball) -> Result<Vec<Hit>, AllocError>
         requires { ball.now.radius ≤ largest_size }
         ensures { IfOk result (λ hits. IsAllHits self.now ball.now hits.items) }
     {
         let mut hits = Vec::new(alloc);
         let reach = Reach::around(self.side, ball);
-        if reach.rows() < self.spots.len() as u64 {
+        if reach.is_quicker(self.spots.len() as u64) {
             reach.measure(&self.places, &self.spots, ball, &mut hits)?;
         } else {
             ball.measure_all(&self.places, &mut hits)?;
