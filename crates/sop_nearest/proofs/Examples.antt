@@ -1,5 +1,5 @@
 -- Worked examples: squared distances, and what the plain scan finds, by computation.
-use Rattle.std.specs.Prelude.{◌≡◌, refl, ℕ, ℤ, pos, negsuc, List, [], ◌∷◌, None, Some}
+use Rattle.std.specs.Prelude.{◌≡◌, refl, ℤ, pos, negsuc, List, [], ◌∷◌}
 use Rattle.sop_fixed.specs.declared.vec3.Vec3.{Vec3}
 use Rattle.sop_model.specs.declared.value.Value.TheVariants as value
 use Rattle.sop_nearest.specs.Places.{place_of, squared}

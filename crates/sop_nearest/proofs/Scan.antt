@@ -10,22 +10,22 @@ use Rattle.sop_fixed.specs.declared.vec3.Vec3.{Vec3}
 use Rattle.sop_nearest.specs.declared.hits.Hit.{Hit}
 use Rattle.sop_nearest.specs.declared.hits.Ball.{Ball}
 use Rattle.sop_nearest.specs.Places.{squared_at}
-use Rattle.sop_nearest.specs.PlainScan.{stands_before, inserted, ordered_by, numbers_within, plain_scan, IsNearby}
+use Rattle.sop_nearest.specs.PlainScan.{stands_before, placed, inserted, ordered_by, numbers_within, plain_scan, IsNearby}
 use Rattle.sop_nearest.specs.Cells.{share, worth, IsAllHits}
 use Rattle.sop_nearest.proofs.Sums.{sum_by-map, sum_by-filter, sum_by-alike}
 use Rattle.sop_nearest.proofs.Ordered.{Pairs, UpTo, hit_cmp, all_pairs-from, pairs-from_sorted, one_order}
 
 -- ---- putting in order moves numbers only
-put : (b : Bool) (n m : ℕ) (ms ns : List ℕ) → IsPermutation (n ∷ ms) ns → IsPermutation (n ∷ m ∷ ms) (cond b (n ∷ m ∷ ms) (m ∷ ns))
-put true n m ms ns moved = IsPermutation-refl (n ∷ m ∷ ms)
-put false n m ms ns moved =
+placed_moves : (b : Bool) (n m : ℕ) (ms ns : List ℕ) → IsPermutation (n ∷ ms) ns → IsPermutation (n ∷ m ∷ ms) (placed b n m ms ns)
+placed_moves true n m ms ns moved = IsPermutation-refl (n ∷ m ∷ ms)
+placed_moves false n m ms ns moved =
     IsPermutation-trans (n ∷ m ∷ ms) (m ∷ n ∷ ms) (m ∷ ns)
     (IsPermutation-sym (m ∷ n ∷ ms) (n ∷ m ∷ ms) (IsPermutation-middle (m ∷ []) n ms))
     (IsPermutation-cons m (n ∷ ms) ns moved)
 
 inserted-moves : (d : ℕ → ℕ) (n : ℕ) (ms : List ℕ) → IsPermutation (n ∷ ms) (inserted d n ms)
 inserted-moves d n [] = IsPermutation-refl (n ∷ [])
-inserted-moves d n (m ∷ ms) = put (stands_before d n m) n m ms (inserted d n ms) (inserted-moves d n ms)
+inserted-moves d n (m ∷ ms) = placed_moves (stands_before d n m) n m ms (inserted d n ms) (inserted-moves d n ms)
 
 pub ordered_by-moves : (d : ℕ → ℕ) (ns : List ℕ) → IsPermutation ns (ordered_by d ns)
 ordered_by-moves d [] = IsPermutation-refl []
@@ -48,17 +48,17 @@ before-from d n m e = record { nearer = grind (arith, nat_tests); tied = λ f. g
 behind-from : (d : ℕ → ℕ) (n m : ℕ) → stands_before d n m ≡ false → n < m → Before d m n
 behind-from d n m e lt = record { nearer = grind (arith, nat_tests); tied = λ f. grind (arith, nat_tests) }
 
-placed : (d : ℕ → ℕ) (n m : ℕ) (ms ns : List ℕ) (b : Bool) → stands_before d n m ≡ b → n < m → All (Before d m) ms → Pairs (Before d) ms → IsPermutation (n ∷ ms) ns → Pairs (Before d) ns → Pairs (Before d) (cond b (n ∷ m ∷ ms) (m ∷ ns))
-placed d n m ms ns true e lt first rest moved in_order =
+placed_ordered : (d : ℕ → ℕ) (n m : ℕ) (ms ns : List ℕ) (b : Bool) → stands_before d n m ≡ b → n < m → All (Before d m) ms → Pairs (Before d) ms → IsPermutation (n ∷ ms) ns → Pairs (Before d) ns → Pairs (Before d) (placed b n m ms ns)
+placed_ordered d n m ms ns true e lt first rest moved in_order =
     let here : Before d n m = before-from d n m e in
     (All-cons (Before d n) m ms here (All-weaker (Before d m) (Before d n) (λ k. before-then d n m k here) ms first), (first, rest))
-placed d n m ms ns false e lt first rest moved in_order =
+placed_ordered d n m ms ns false e lt first rest moved in_order =
     (All-permutation (Before d m) (n ∷ ms) ns moved (All-cons (Before d m) n ms (behind-from d n m e lt) first), in_order)
 
 inserted-ordered : (d : ℕ → ℕ) (n : ℕ) (ms : List ℕ) → All (λ m. n < m) ms → Pairs (Before d) ms → Pairs (Before d) (inserted d n ms)
 inserted-ordered d n [] above pairs = (All-nil (Before d n), tt)
 inserted-ordered d n (m ∷ ms) above pairs =
-    placed d n m ms (inserted d n ms) (stands_before d n m) refl (All-head (λ m. n < m) m ms above) pairs.0 pairs.1 (inserted-moves d n ms)
+    placed_ordered d n m ms (inserted d n ms) (stands_before d n m) refl (All-head (λ m. n < m) m ms above) pairs.0 pairs.1 (inserted-moves d n ms)
     (inserted-ordered d n ms (All-tail (λ m. n < m) m ms above) pairs.1)
 
 ordered_by-ordered : (d : ℕ → ℕ) (ns : List ℕ) → Pairs (λ n m. n < m) ns → Pairs (Before d) (ordered_by d ns)

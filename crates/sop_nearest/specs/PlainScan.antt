@@ -1,6 +1,6 @@
 -- The points near a place, as the plain scan finds them: every point is measured, and those whose squared distance is at most the squared
 -- radius stand in the order of their squared distances, and of their numbers where these are equal.
-use Rattle.std.specs.Prelude.{◌≡◌, ℕ, ◌*◌, ◌<◌, ◌≤◌, ◌↔◌, Bool, ◌&&◌, ◌||◌, ◌==◌, nat_lt, nat_le, if◌then◌else◌, List, [], ◌∷◌, length, filter, Contains}
+use Rattle.std.specs.Prelude.{◌≡◌, ℕ, ◌*◌, ◌<◌, ◌≤◌, ◌↔◌, Bool, true, false, ◌&&◌, ◌||◌, ◌==◌, nat_lt, nat_le, List, [], ◌∷◌, length, filter, Contains}
 use Rattle.std.specs.List.{AllPairs, range_with_len}
 use Rattle.sop_fixed.specs.declared.vec3.Vec3.{Vec3}
 use Rattle.sop_nearest.specs.Places.{squared_at}
@@ -19,10 +19,15 @@ pub record IsNearby (places : List Vec3) (center : Vec3) (radius : ℕ) (numbers
 abbrev pub stands_before : (ℕ → ℕ) → ℕ → ℕ → Bool
 stands_before distance n m = nat_lt (distance n) (distance m) || ((distance n == distance m) && nat_lt n m)
 
+-- n before m and the others, or m before those that n was put among
+abbrev pub placed : Bool → ℕ → ℕ → List ℕ → List ℕ → List ℕ
+placed true n m others among = n ∷ m ∷ others
+placed false n m others among = m ∷ among
+
 -- a number put among others before the first that it stands before
 abbrev pub inserted : (ℕ → ℕ) → ℕ → List ℕ → List ℕ
 inserted distance n [] = n ∷ []
-inserted distance n (m ∷ ms) = if stands_before distance n m then n ∷ m ∷ ms else m ∷ inserted distance n ms
+inserted distance n (m ∷ ms) = placed (stands_before distance n m) n m ms (inserted distance n ms)
 
 -- numbers put in order one by one
 abbrev pub ordered_by : (ℕ → ℕ) → List ℕ → List ℕ
