@@ -1,5 +1,5 @@
 -- Points in cells: parts of a sorted list, and the cells that a ball reaches.
-use Rattle.std.proofs.Common.{◌≡◌, ℕ, zero, suc, ◌+◌, ◌-◌, ◌*◌, ◌<◌, ◌≤◌, Bool, true, false, not, List, [], ◌∷◌, length, map, refl, sym, ap, subst, ◌∙◌, arith, ltb, leb, eqb, ◌&&◌, get_or, take, drop, cond, inl, inr, zero-add, ◌++◌, ◌^◌, unsigned_abs, ◌-ℤ◌}
+use Rattle.std.proofs.Common.{◌≡◌, ℕ, zero, suc, ◌+◌, ◌-◌, ◌*◌, ◌<◌, ◌≤◌, Bool, true, false, not, List, [], ◌∷◌, length, map, refl, sym, ap, subst, ◌∙◌, arith, ltb, leb, eqb, ◌&&◌, get_or, take, drop, cond, inl, inr, zero-add, ◌++◌, ◌^◌, unsigned_abs, ◌-ℤ◌, min}
 use Rattle.std.specs.Prelude.{filter, IsSortedByKey, IsPermutation}
 use Rattle.std.specs.List.{AllWithin, range_with_len}
 use Rattle.std.specs.List.Sorted.{IsPartitionedBy, IsPartitionPoint, IsNonDecreasingBy}
@@ -7,6 +7,7 @@ use Rattle.std.specs.Cmp.{IsTotalOrder}
 use Rattle.std.specs.Ordering.{is_lt, ordering_index}
 use Rattle.std.specs.declared.cmp.Ordering.{Ordering}
 use Rattle.std.specs.declared.cmp.Ordering.TheVariants.{Less, Equal, Greater}
+use Rattle.std.proofs.Math.Nat.{le-mul_of_pos_right}
 use Rattle.std.proofs.Math.Seq.{take-length}
 use Rattle.std.proofs.lemmas.List.{length-drop, get_or_default}
 use Rattle.std.proofs.lemmas.List.FromFn.{map-range_with_len_more}
@@ -120,3 +121,7 @@ grid_from side places i old new wide few all is moved sorted = record {
   all = subst (λ l. IsPermutation l new) (is ∙ ap (λ n. map (spot_at side places) (range_with_len 0 n)) all) moved;
   sorted = sorted;
 }
+
+-- ---- rows against points
+pub few_rows : (rows first steps all most points : ℕ) → first ≡ min rows most → 0 < steps → all ≡ min (first * steps) most → points ≤ most → all < points → rows ≤ points
+few_rows rows first steps all most points e some f bound less = omega (arith, le-mul_of_pos_right first some)

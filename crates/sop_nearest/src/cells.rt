@@ -1,5 +1,5 @@
 // Points by cells of a grid.
-ghost use Rattle.std.specs.Prelude.{◌≡◌, ◌≤◌, ◌<◌, ◌*◌, ◌/◌, ◌^◌, ◌++◌, OnOk, IfOk, IsTrue, All, length, filter, not, ℤ, ◌-ℤ◌, unsigned_abs, IsSortedByKey};
+ghost use Rattle.std.specs.Prelude.{◌≡◌, ◌≤◌, ◌<◌, ◌-◌, ◌*◌, ◌/◌, ◌^◌, ◌++◌, OnOk, IfOk, IsTrue, All, length, filter, not, ℤ, ◌-ℤ◌, unsigned_abs, IsSortedByKey};
 ghost use Rattle.std.specs.List.{flat_map};
 ghost use Rattle.std.specs.Ordering.{is_lt};
 ghost use Rattle.sop_fixed.specs.Numbers.{largest_size};
@@ -99,7 +99,9 @@ impl Span {
         }
     }
 
-    fn len(self) -> u64 {
+    fn len(self) -> u64
+        ensures { result ≡ self.end - self.low }
+    {
         self.end.saturating_sub(self.low)
     }
 }
@@ -119,9 +121,12 @@ impl Reach {
         }
     }
 
-    /// Whether these cells are found in fewer steps than so many points are measured. A row takes two binary searches.
-    pub(crate) fn is_quicker(self, points: u64) -> bool {
-        let steps = 2 * u64::from(u64::BITS - points.leading_zeros());
+    /// Whether these cells are found in fewer steps than so many points are measured. A row takes two binary searches, and
+    /// one step more.
+    pub(crate) fn is_quicker(self, points: u64) -> bool
+        ensures { IsTrue result → (self.x.end - self.x.low) * (self.y.end - self.y.low) ≤ points }
+    {
+        let steps = 2 * u64::from(u64::BITS - points.leading_zeros()) + 1;
         self.x
             .len()
             .saturating_mul(self.y.len())
