@@ -1,0 +1,12 @@
+//! Points near a place: those within a radius, by distance and then by number.
+#![tactic(auto)]
+
+mod cells;
+mod hits;
+pub mod near;
+mod places;
+
+pub use near::Near;
+
+#[cfg(test)]
+mod tests;

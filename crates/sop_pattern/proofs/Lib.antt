@@ -1,0 +1,10 @@
+mod Digits
+mod Marking
+mod Names
+mod Ends
+mod Cycles
+mod Groups
+mod Reading
+mod Cuts
+mod Spelled
+mod Examples

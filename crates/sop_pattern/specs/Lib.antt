@@ -1,0 +1,5 @@
+pub mod Words
+pub mod Wildcard
+pub mod Selection
+pub mod Marks
+pub mod Spelling
