@@ -1,9 +1,7 @@
 -- The steps of a cook: what a node tells, and the merge of geometries so far.
 use Rattle.std.proofs.Common.{◌≡◌, Bool, true, false, ℕ, zero, suc, ◌+◌, ◌<◌, ◌≤◌, List, [], ◌∷◌, ◌++◌, length, take, drop, get_or, refl, sym, ◌∙◌, ap, subst, arith, nat_le, ◌&&◌, if◌then◌else◌}
-use Rattle.std.specs.Prelude.{All, Option, None, Some, Result, Ok, Err, slice_get, Vec, Contains, option_map}
-use Rattle.std.specs.declared.alloc.Global.{Global}
-use Rattle.std.proofs.lemmas.List.{take_more, drop_more, take-append-drop, length-append}
-use Rattle.std.proofs.Math.Seq.{take-length}
+use Rattle.std.specs.Prelude.{All, Option, None, Some, Result, Ok, Err}
+use Rattle.std.proofs.lemmas.List.{take_more, drop_more, take-append-drop}
 use Rattle.std.proofs.lemmas.List.Elements.{All-nil, All-cons, All-append}
 use Rattle.std.proofs.lemmas.Grind.{common_steps}
 use Rattle.sop_model.specs.declared.geo.Geo.{Geo}
@@ -12,20 +10,19 @@ use Rattle.sop_model.specs.declared.fault.Fault.TheVariants as variant
 use Rattle.sop_model.specs.declared.fault.CookStop.{CookStop}
 use Rattle.sop_model.specs.declared.fault.CookStop.TheVariants as stop
 use Rattle.sop_model.specs.Vertices.{corners_of}
-use Rattle.sop_model.specs.Geometry.{fits, class_fits, geo_weight, empty_geo}
+use Rattle.sop_model.specs.Geometry.{fits, class_fits, geo_weight}
 use Rattle.sop_model.specs.Merge.{merged}
 use Rattle.sop_model.specs.Plain.{IsPlain, plain_append}
-use Rattle.sop_model.proofs.PlainMerge.{merged-push, merged-nil}
+use Rattle.sop_model.proofs.PlainMerge.{merged-push}
 use Rattle.sop_model.proofs.LimitsLemmas.{fits-true}
 use Rattle.sop_net.specs.declared.node.Node.{Node}
 use Rattle.sop_net.specs.declared.kind.NodeType.{NodeType}
-use Rattle.sop_net.specs.declared.kind.NodeType.TheVariants as type
 use Rattle.sop_net.specs.Graph.{Within}
-use Rattle.sop_net.specs.Network.{node_of, wire_at, wired, parm_at, switch_input, used_wires, wires_used_by, used_sources}
+use Rattle.sop_net.specs.Network.{node_of, wire_at, used_sources}
 use Rattle.sop_cook.specs.declared.cook_end.CookEnd.{CookEnd}
 use Rattle.sop_cook.specs.declared.cook_end.CookEnd.TheVariants as end
 use Rattle.sop_cook.specs.Loads.{FileMap}
-use Rattle.sop_cook.specs.SerialCook.{Outcome, Failure, failed, then_with, at_node, file_geo, merge_geo, gathered, given, merge_outcome, visit, visit_type, cook_of}
+use Rattle.sop_cook.specs.SerialCook.{Outcome, Failure, then_with, at_node, merge_geo, gathered, merge_outcome, visit, visit_type, cook_of}
 use Rattle.sop_cook.specs.Keeping.{Tells, TellsAll, TellsMade, IsReady, is_over_limits, are_over}
 use Rattle.sop_cook.proofs.MergeLemmas.{points_in, prims_in, vertices_in, length-merged_points, length-merged_prims, length-merged_corners}
 use Rattle.sop_cook.proofs.GatherLemmas.{after, gathered-append, gathered-skip, gathered-push}

@@ -1,7 +1,7 @@
 -- Inputs that are gathered in turn.
 use Rattle.std.proofs.Common.{◌≡◌, ℕ, List, [], ◌∷◌, ◌++◌, refl, sym, ◌∙◌, ap}
 use Rattle.std.proofs.lemmas.List.{append-nil}
-use Rattle.std.specs.Prelude.{Option, None, Some, Result, Ok, Err, IsErr}
+use Rattle.std.specs.Prelude.{Option, None, Some, Result, Ok, Err}
 use Rattle.sop_model.specs.declared.geo.Geo.{Geo}
 use Rattle.sop_cook.specs.SerialCook.{Outcome, Failure, then_with, gathered}
 

@@ -1,12 +1,11 @@
 -- What is kept of finished nodes.
-use Rattle.std.proofs.Common.{◌≡◌, inl, inr, ℕ, zero, suc, ◌+◌, ◌<◌, List, [], ◌∷◌, ◌++◌, length, set, refl, sym, ◌∙◌, ap, subst, arith, Bool, true, false, cond, ◌==◌}
-use Rattle.std.specs.Prelude.{Option, None, Some, Ok, slice_get, slice_set, position, ◌⊎◌, find, nat_lt}
-use Rattle.std.specs.List.{position_or_len}
-use Rattle.std.proofs.lemmas.List.Folds.{find_at}
+use Rattle.std.proofs.Common.{◌≡◌, inl, inr, ℕ, zero, suc, ◌+◌, List, [], ◌∷◌, ◌++◌, length, set, refl, sym, ◌∙◌, ap, subst}
+use Rattle.std.specs.Prelude.{Option, None, Some, Ok, slice_get, slice_set, ◌⊎◌}
 use Rattle.std.proofs.lemmas.List.{length-set, length-append}
 use Rattle.sop_model.specs.declared.geo.Geo.{Geo}
 use Rattle.sop_net.specs.declared.node.Node.{Node}
-use Rattle.sop_net.specs.Network.{place_of, node_of}
+use Rattle.sop_net.specs.Network.{place_of}
+use Rattle.sop_net.proofs.RoomLemmas.{same_number}
 use Rattle.sop_cook.specs.declared.kept.Kept.{Kept}
 use Rattle.sop_cook.specs.SerialCook.{Outcome}
 use Rattle.sop_cook.specs.Keeping.{IsKept, IsReady, AreNone}
@@ -18,44 +17,6 @@ geo_there (a ∷ xs) zero (suc y) v g h = inr h
 geo_there (a ∷ xs) (suc x) zero v g h = inr h
 geo_there (a ∷ xs) (suc x) (suc y) v g h = elim (geo_there xs x y v g h) [ inl p ↦ inl (ap suc p.0, p.1) | inr p ↦ inr p ]
 
-number_equal : (a b : ℕ) → (a == b) ≡ true → a ≡ b
-number_equal a b h = grind arith
-
-found_by : (nodes : List Node) (x : ℕ) (m n : Node) (b : Bool) → (m.number == x) ≡ b → cond b (Some m) (node_of nodes x) ≡ Some n → (node_of nodes x ≡ Some n → n.number ≡ x) → n.number ≡ x
-found_by nodes x m n true is h rest = let same : m ≡ n = cc in subst (λ k. k.number ≡ x) same (number_equal m.number x is)
-found_by nodes x m n false is h rest = rest h
-
--- the node of a number has it
-pub found_number : (nodes : List Node) (x : ℕ) (n : Node) → node_of nodes x ≡ Some n → n.number ≡ x
-found_number [] x n h = let no : ⊥ = cc in absurd no
-found_number (m ∷ nodes) x n h = found_by nodes x m n (m.number == x) refl h (found_number nodes x n)
-
-placed_by : (b : Bool) (i place : ℕ) → cond b (Some i) None ≡ Some place → (b ≡ true) × (i ≡ place)
-placed_by true i place h = (refl, let same : i ≡ place = cc in same)
-placed_by false i place h = let no : ⊥ = cc in absurd no
-
--- the node at a place
-pub place_found : (nodes : List Node) (x place : ℕ) → place_of nodes x ≡ Some place → (place < length nodes) × (node_of nodes x ≡ slice_get nodes place)
-place_found nodes x place h =
-    let at = placed_by (nat_lt (position_or_len (λ n. n.number == x) nodes) (length nodes)) (position_or_len (λ n. n.number == x) nodes) place h in
-    let within : position_or_len (λ n. n.number == x) nodes < length nodes = below (position_or_len (λ n. n.number == x) nodes) (length nodes) at.0 in
-    (subst (λ i. i < length nodes) at.1 within, find_at (λ n. n.number == x) nodes ∙ ap (slice_get nodes) at.1)
-  where
-    below : (i n : ℕ) → nat_lt i n ≡ true → i < n
-    below i n e = grind arith
-
-there_is : (nodes : List Node) (place : ℕ) → place < length nodes → (n : Node) × (slice_get nodes place ≡ Some n)
-there_is [] place lt = absurd (omega (arith, lt))
-there_is (n ∷ nodes) zero lt = (n, refl)
-there_is (n ∷ nodes) (suc place) lt = there_is nodes place (omega (arith, lt))
-
--- two nodes of one place have one number
-pub place_number : (nodes : List Node) (x y place : ℕ) → place_of nodes x ≡ Some place → place_of nodes y ≡ Some place → x ≡ y
-place_number nodes x y place hx hy =
-    let at = place_found nodes x place hx in
-    let n = there_is nodes place at.0 in
-    sym (found_number nodes x n.0 (at.1 ∙ n.1)) ∙ found_number nodes y n.0 ((place_found nodes y place hy).1 ∙ n.1)
-
 kept_set : (cook : ℕ → Outcome) (nodes : List Node) (kept now : Kept) (x place : ℕ) (v : Option Geo) → IsKept cook nodes kept → place_of nodes x ≡ Some place → length now.uses.items ≡ length kept.uses.items → now.geos.items ≡ set kept.geos.items place v
     → ((g : Geo) → v ≡ Some g → (cook x ≡ Ok g) × IsReady g) → IsKept cook nodes now
 kept_set cook nodes kept now x place v h at uses geos told = record {
@@ -63,7 +24,7 @@ kept_set cook nodes kept now x place v h at uses geos told = record {
   places = ap (λ (gs : List (Option Geo)). length gs) geos ∙ length-set kept.geos.items place v ∙ h.places;
   geos = λ y other g there_at there.
       elim (geo_there kept.geos.items place other v g (ap (λ gs. slice_get gs other) (sym geos) ∙ there))
-      [ inl p ↦ subst (λ n. (cook n ≡ Ok g) × IsReady g) (place_number nodes x y place at (there_at ∙ ap Some p.0)) (told g p.1) | inr p ↦ h.geos y other g there_at p ];
+      [ inl p ↦ subst (λ n. (cook n ≡ Ok g) × IsReady g) (same_number nodes x y place at (there_at ∙ ap Some p.0)) (told g p.1) | inr p ↦ h.geos y other g there_at p ];
 }
 
 -- what is kept where a geometry was taken

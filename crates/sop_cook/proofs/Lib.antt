@@ -5,4 +5,3 @@ pub mod LoadsLemmas
 pub mod KeptLemmas
 pub mod SerialCookLemmas
 pub mod CookLemmas
-pub mod NodeLemmas

@@ -1,5 +1,5 @@
 -- How many elements a merge has, and when it is within the limits of a geometry.
-use Rattle.std.proofs.Common.{◌≡◌, Bool, true, false, ℕ, zero, suc, ◌+◌, ◌*◌, ◌<◌, ◌≤◌, ◌⊎◌, inl, inr, List, [], ◌∷◌, ◌++◌, length, map, refl, sym, ◌∙◌, ap, subst, arith, nat_le, ◌&&◌}
+use Rattle.std.proofs.Common.{◌≡◌, Bool, true, false, ℕ, ◌+◌, ◌*◌, ◌<◌, ◌⊎◌, List, [], ◌∷◌, length, map, refl, sym, ◌∙◌, ap, arith, ◌&&◌}
 use Rattle.std.specs.Prelude.{All, sum_by}
 use Rattle.std.specs.List.{flat_map}
 use Rattle.std.proofs.lemmas.List.{length-append, length-map}
@@ -13,7 +13,7 @@ use Rattle.sop_model.specs.declared.geo.Corner.{Corner}
 use Rattle.sop_model.specs.declared.geo.Primitive.{Primitive}
 use Rattle.sop_model.specs.declared.class.Class.TheVariants.{Detail, Prim, Point, Vertex}
 use Rattle.sop_model.specs.Vertices.{corners_of}
-use Rattle.sop_model.specs.Geometry.{empty_row, empty_geo, rows_of, row_weight, geo_weight, fits}
+use Rattle.sop_model.specs.Geometry.{empty_row, empty_geo, rows_of, row_weight, geo_weight}
 use Rattle.sop_model.specs.Merge.{row_under, joined_set, moved_corner, moved_prim, joined_prims, merged}
 use Rattle.sop_model.specs.Plain.{IsPointRow, IsPlain}
 

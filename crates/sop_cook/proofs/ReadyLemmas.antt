@@ -1,8 +1,8 @@
 -- Ready geometries, one behind another.
-use Rattle.std.proofs.Common.{◌≡◌, Bool, true, false, ℕ, ◌+◌, ◌*◌, ◌<◌, ◌≤◌, ◌^◌, List, [], ◌∷◌, ◌++◌, length, map, take, drop, refl, sym, ◌∙◌, ap, subst, arith, nat_le, nat_lt, ◌&&◌, ◌||◌, get_or, set}
+use Rattle.std.proofs.Common.{◌≡◌, false, ℕ, ◌+◌, ◌<◌, ◌≤◌, ◌^◌, List, [], ◌∷◌, ◌++◌, length, map, take, drop, refl, sym, ◌∙◌, ap, subst, arith, get_or, set}
 use Rattle.std.specs.Prelude.{All}
-use Rattle.std.proofs.lemmas.List.{length-append, length-map, get_or_append_left, get_or-append-add, get_or-drop, take_more, take_more_set, drop_more, drop-set-lt, length-drop, map-append}
-use Rattle.std.proofs.lemmas.List.Elements.{All-nil, All-cons, All-head, All-tail, All-append, All-map, All-weaker}
+use Rattle.std.proofs.lemmas.List.{length-append, length-map, get_or-drop, take_more, take_more_set, drop_more, drop-set-lt, length-drop, map-append}
+use Rattle.std.proofs.lemmas.List.Elements.{All-nil, All-cons, All-append, All-map, All-weaker}
 use Rattle.std.proofs.lemmas.Grind.{common_steps}
 use Rattle.sop_model.specs.declared.geo.Geo.{Geo}
 use Rattle.sop_model.specs.declared.geo.Corner.{Corner}
@@ -11,7 +11,7 @@ use Rattle.sop_model.specs.declared.geo.HeadSet.{HeadSet}
 use Rattle.sop_model.specs.declared.class.Class.{Class}
 use Rattle.sop_model.specs.declared.class.Class.TheVariants.{Detail, Prim, Point, Vertex}
 use Rattle.sop_model.specs.Vertices.{size_of, corners_of}
-use Rattle.sop_model.specs.Geometry.{heads_of, empty_geo, geo_weight, IsWithin, Fits, IsGood, IsSound, IsReadable, HasOnlyPosition}
+use Rattle.sop_model.specs.Geometry.{heads_of, empty_geo, IsWithin, Fits, IsReadable}
 use Rattle.sop_model.specs.Plain.{IsPlain, plain_append, shifted_prim, shifted_corner}
 use Rattle.sop_model.proofs.PlainLemmas.{IsPlain-from_sound}
 use Rattle.sop_model.proofs.PlainMerge.{IsPlain-append, IsPlain-empty_geo, IsSound-append, IsSound-empty_geo, corners_of-append, All-left, All-right}

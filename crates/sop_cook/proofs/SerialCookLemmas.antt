@@ -1,33 +1,17 @@
 -- The rule of the cook, which speaks of no bound, and when two cooks are the same.
-use Rattle.std.proofs.Common.{◌≡◌, ap, sym, refl, ◌∙◌, subst, ℕ, zero, suc, ◌+◌, ◌-◌, ◌<◌, List, [], ◌∷◌, length, arith, get_or}
-use Rattle.std.specs.Prelude.{Option, None, Some, Result, Ok, Err, Contains, slice_get}
+use Rattle.std.proofs.Common.{◌≡◌, ap, refl, ◌∙◌, subst, ℕ, zero, suc, List, [], ◌∷◌, length}
+use Rattle.std.specs.Prelude.{Option, None, Some, Result, Ok, Err, Contains}
 use Rattle.sop_model.specs.declared.geo.Geo.{Geo}
 use Rattle.sop_model.specs.declared.fault.Fault.{Fault}
 use Rattle.sop_model.specs.declared.fault.Fault.TheVariants as fault
 use Rattle.sop_net.specs.Graph.{Within}
+use Rattle.sop_net.proofs.UsedLemmas.{first_is, further, wired_at}
 use Rattle.sop_net.specs.declared.kind.NodeType.{NodeType}
 use Rattle.sop_net.specs.declared.kind.NodeType.TheVariants as type
 use Rattle.sop_net.specs.declared.node.Node.{Node}
 use Rattle.sop_net.specs.Network.{node_of, wired, wire_at, parm_at, switch_input, used_wires, wires_used_by, used_sources, IsLive}
 use Rattle.sop_cook.specs.Loads.{FileMap}
 use Rattle.sop_cook.specs.SerialCook.{Outcome, Failure, failed, then_with, at_node, file_geo, merge_geo, gathered, given, merge_outcome, visit_type, visit, cooked, cook_of}
-
-first_is : (x : ℕ) (xs : List ℕ) → Contains (x ∷ xs) x
-first_is x xs = (0, omega arith, refl)
-
-further : (x y : ℕ) (xs : List ℕ) → Contains xs y → Contains (x ∷ xs) y
-further x y xs h = let lt = h.1 in (suc h.0, omega (arith, lt), h.2)
-
--- a wire's source is among the wired ones
-pub wired_at : (wires : List (Option ℕ)) (i source : ℕ) → wire_at wires i ≡ Some source → Contains (wired wires) source
-wired_at [] i source h = absurd (no h)
-  where
-    no : None ≡ Some source → ⊥
-    no e = cc
-wired_at (None ∷ wires) zero source h = let no : ⊥ = cc in absurd no
-wired_at (Some s ∷ wires) zero source h = let same : s ≡ source = cc in subst (λ t. Contains (s ∷ wired wires) t) same (first_is s (wired wires))
-wired_at (None ∷ wires) (suc i) source h = wired_at wires i source h
-wired_at (Some s ∷ wires) (suc i) source h = further s source (wired wires) (wired_at wires i source h)
 
 same_gathered : (f g : ℕ → Outcome) (wires : List (Option ℕ)) → ((source : ℕ) → Contains (wired wires) source → f source ≡ g source) → gathered f wires ≡ gathered g wires
 same_gathered f g [] same = refl
@@ -65,19 +49,6 @@ one_more files nodes (suc depth) x within =
 -- the rule of the cook
 pub cook_visits : (files : FileMap) (nodes : List Node) (x : ℕ) → Within (used_sources nodes) (length nodes) x → cook_of files nodes x ≡ visit (cook_of files nodes) files x (node_of nodes x)
 cook_visits files nodes x within = one_more files nodes (length nodes) x within
-
--- a source is within one step less
-pub within_less : (f : ℕ → List ℕ) (left x y : ℕ) → Within f left x → Contains (f x) y → (0 < left) × Within f (left - 1) y
-within_less f zero x y within h = absurd within
-within_less f (suc left) x y within h = let less : suc left - 1 ≡ left = omega arith in (omega arith, subst (λ k. Within f k y) (sym less) (within y h))
-
--- a used wire's source is one step nearer to the end
-pub source_used : (nodes : List Node) (x i source : ℕ) → wire_at (used_wires (node_of nodes x)) i ≡ Some source → Contains (used_sources nodes x) source
-source_used nodes x i source wire = wired_at (used_wires (node_of nodes x)) i source wire
-
-pub source_within : (nodes : List Node) (left x i source : ℕ) → Within (used_sources nodes) left x → wire_at (used_wires (node_of nodes x)) i ≡ Some source
-    → (0 < left) × Within (used_sources nodes) (left - 1) source
-source_within nodes left x i source within wire = within_less (used_sources nodes) left x source within (source_used nodes x i source wire)
 
 -- a node's own fault is at the node
 own_failure : (nodes : List Node) (x : ℕ) (made : Result Geo Fault) (f : Failure) → IsLive nodes x → at_node x made ≡ Err f → IsLive nodes f.node

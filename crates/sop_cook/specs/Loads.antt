@@ -1,5 +1,5 @@
 -- The loads of files that a cook reads, by name.
-use Rattle.std.specs.Prelude.{◌≡◌, ◌⊎◌, ℕ, List, map, Option, String, string_bytes, unwrap_or, refl}
+use Rattle.std.specs.Prelude.{◌≡◌, ◌⊎◌, ℕ, List, map, String, string_bytes, unwrap_or, refl}
 use Rattle.std.specs.Coded.{Coded, code_by, coded_list, coded_ℕ, coded⊎}
 use base.Stored.{coded_unit}
 use mathlib.Core.Logic.{inl, inr}

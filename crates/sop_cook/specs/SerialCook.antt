@@ -5,7 +5,7 @@
 -- wired inputs, or Limit where this passes a limit of a geometry. A null gives its input, a switch the input that it takes.
 -- What can't be cooked yet is NotYet: a node of another type, before its inputs are cooked, and a file out of the plain form or past a limit of
 -- OBJ.
-use Rattle.std.specs.Prelude.{ℕ, zero, suc, Bool, true, false, if◌then◌else◌, List, [], ◌∷◌, length, Option, None, Some, Result, Ok, Err}
+use Rattle.std.specs.Prelude.{ℕ, zero, suc, if◌then◌else◌, List, [], ◌∷◌, length, Option, None, Some, Result, Ok, Err}
 use Rattle.sop_model.specs.declared.geo.Geo.{Geo}
 use Rattle.sop_model.specs.declared.fault.Fault.{Fault}
 use Rattle.sop_model.specs.declared.fault.Fault.TheVariants as fault

@@ -1,5 +1,5 @@
 -- What stands on the sinks in two parts: an echo, and what comes behind it.
-use Rattle.std.proofs.Common.{◌≡◌, ℕ, ◌+◌, ◌≤◌, List, ◌++◌, length, take, ◌⊎◌, inl, inr, refl, sym, ◌∙◌, ap, subst, arith, length-append}
+use Rattle.std.proofs.Common.{◌≡◌, ℕ, ◌+◌, List, ◌++◌, length, take, ◌⊎◌, inl, inr, sym, ◌∙◌, ap, subst, arith, length-append}
 use Rattle.std.specs.Prelude.{Option, None, Some, IfSome}
 use Rattle.std.proofs.lemmas.Grind.{common_steps}
 use Rattle.std.proofs.Math.Seq.{take-length, take-append-add}
@@ -11,7 +11,7 @@ use Rattle.sopcook.specs.declared.answer.Answer.{Answer}
 use Rattle.sopcook.specs.declared.opening.Opening.{Opening}
 use Rattle.sopcook.specs.declared.opening.Opening.TheVariants.{Cooking}
 use Rattle.sopcook.specs.Answer.{answer_of, opening_of, opened_answer, node_answer, read_line}
-use Rattle.sopcook.specs.Delivery.{Told, DeliversPrefix}
+use Rattle.sopcook.specs.Delivery.{DeliversPrefix}
 
 -- all of some bytes is a prefix of them
 pub AppendsPrefix-whole : (before now : Option (List ℕ)) (bytes : List ℕ) → now ≡ appended before bytes → AppendsPrefix before now bytes

@@ -1,15 +1,15 @@
 -- The words of the command line as the kit's command reads them.
-use Rattle.std.proofs.Common.{◌≡◌, Bool, true, false, cond, ℕ, List, [], ◌∷◌, ◌⊎◌, inl, inr, map, refl, sym, ◌∙◌, ap, subst}
-use Rattle.std.specs.Prelude.{Option, None, Some, Result, Ok, Err, find, bytes_eq, slice_get, option_map, option_and_then, ◌&&◌, codes}
+use Rattle.std.proofs.Common.{◌≡◌, Bool, true, false, cond, ℕ, List, [], ◌∷◌, inl, inr, map, refl, sym, ◌∙◌, ap, subst}
+use Rattle.std.specs.Prelude.{None, Some, Result, Ok, Err, find, bytes_eq, slice_get, option_map, option_and_then, ◌&&◌, codes}
 use Rattle.std.proofs.lemmas.Option.{slice_get-map}
-use Rattle.clap.specs.Words.{App, Row, Kinds, IsAmong, HasKind, FailsBy, kind_of, is_simple_and_free, is_simple, first_of, first_value, found_of, rows_of, fault_of, matches_of}
+use Rattle.clap.specs.Words.{Kinds, IsAmong, HasKind, FailsBy, kind_of, is_simple_and_free, is_simple, first_of, first_value, rows_of, fault_of, matches_of}
 use Rattle.clap.specs.Walk.{row_of}
 use Rattle.clap.specs.Facts.{Entry}
 use Rattle.clap.specs.declared.parser.matches.Found.{Found}
 use Rattle.clap.specs.declared.error.Error.{Error}
 use Rattle.clap.specs.declared.error.kind.ErrorKind.TheVariants as kind
 use Rattle.clap.proofs.OnLiterals.{clap_on_literals}
-use Rattle.sopcook.specs.Request.{Asked, sopcook_app, are_taken, asked, given_for, taken_request, request_of, passes, is_workers, is_form}
+use Rattle.sopcook.specs.Request.{sopcook_app, are_taken, asked, given_for, taken_request, request_of, passes, is_workers, is_form}
 
 pub app_is_simple : is_simple sopcook_app ≡ true
 unfolding clap_on_literals

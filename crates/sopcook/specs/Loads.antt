@@ -1,5 +1,5 @@
 -- The loads of files that tell their bytes.
-use Rattle.std.specs.Prelude.{◌≡◌, ℕ, List, Result, Ok, Err, IsTrue, is_some, Some, Option, Contains}
+use Rattle.std.specs.Prelude.{◌≡◌, ℕ, List, Result, Ok, Err, IsTrue, is_some, Some, Contains}
 use Rattle.std.specs.FinMap as finite
 use Rattle.sop_outside.specs.Load.{Names, load_of}
 use Rattle.sop_outside.specs.declared.files.LoadEnd.{LoadEnd}

@@ -3,7 +3,7 @@
 -- They are read as `clap` reads one command: `sopcook SCRIPT NODE [-j N] [--form FORM]`, two required positionals and two options that take one
 -- text each. It has no version, and a request for help is refused as an unknown word is. N is one or two digits with a value from 1 to 64, and
 -- FORM is `obj`.
-use Rattle.std.specs.Prelude.{ℕ, ◌+◌, ◌-◌, ◌*◌, Bool, true, false, ◌&&◌, nat_le, if◌then◌else◌, List, [], ◌∷◌, Option, None, Some, codes, bytes_eq}
+use Rattle.std.specs.Prelude.{ℕ, ◌+◌, ◌-◌, ◌*◌, Bool, true, false, ◌&&◌, nat_le, List, [], ◌∷◌, Option, None, Some, codes, bytes_eq}
 use Rattle.std.specs.Char.{is_ascii_digit}
 use Rattle.sopcook.specs.declared.request.Request.{Request}
 use Rattle.clap.specs.Words.{App, Rule, Kinds, new_app, new_rule, with_rule, matches_of, first_of, fault_of}

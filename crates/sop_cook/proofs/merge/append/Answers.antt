@@ -1,5 +1,4 @@
 use Rattle.std.proofs.Common.{◌≡◌, ◌≤◌, ◌++◌, sym, ◌∙◌, subst, ap, arith, length, map, List}
-use Rattle.sop_model.specs.declared.geo.Geo.{Geo}
 use Rattle.sop_model.specs.declared.geo.Primitive.{Primitive}
 use Rattle.sop_model.specs.Plain.{plain_append, shifted_prim}
 use Rattle.sop_cook.specs.Keeping.{IsReady}

@@ -1,10 +1,10 @@
-use Rattle.std.proofs.Common.{◌≡◌, ◌∙◌, sym, ap, subst, refl, length, map, map-id, take, drop, ◌+◌, rules, arith, ◌∷◌, []}
-use Rattle.std.specs.Prelude.{Ok, Err}
+use Rattle.std.proofs.Common.{◌∙◌, sym, ap, subst, length, map-id, drop, ◌+◌, rules}
+use Rattle.std.specs.Prelude.{Err}
 use Rattle.std.proofs.lemmas.Iterator.Adapters.{YieldsList-from_vec}
-use Rattle.std.proofs.lemmas.Iterator.Consumers.{YieldsList-at, YieldsList-so_far, YieldsList-turn, YieldsList-end}
+use Rattle.std.proofs.lemmas.Iterator.Consumers.{YieldsList-so_far, YieldsList-turn, YieldsList-end}
 use Rattle.sop_cook.specs.SerialCook.{merge_geo}
-use Rattle.sop_cook.specs.Keeping.{IsReady, TellsMade}
-use Rattle.sop_cook.proofs.CookLemmas.{Merged, merged_more, merged_all, merged_over, split_at}
+use Rattle.sop_cook.specs.Keeping.{IsReady}
+use Rattle.sop_cook.proofs.CookLemmas.{merged_more, merged_all, merged_over, split_at}
 use Rattle.sop_cook.proofs.merge.merge.Goals as goal
 
 pub loop-geo-preserved : goal.loop-geo-preserved

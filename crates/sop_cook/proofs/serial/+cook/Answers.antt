@@ -1,13 +1,13 @@
-use Rattle.std.proofs.Common.{◌≡◌, ◌<◌, sym, ◌∙◌, ap, subst, arith, length, refl, None, Some, Err, ◌≤◌, ◌+◌}
+use Rattle.std.proofs.Common.{◌<◌, sym, ◌∙◌, ap, subst, arith, length, Err, ◌+◌}
 use Rattle.sop_net.specs.Network.{node_of, parm_at, switch_input, wire_at, used_wires}
 use Rattle.sop_net.specs.declared.kind.NodeType.TheVariants as type
-use Rattle.sop_cook.specs.SerialCook.{Outcome, cook_of, file_geo, merge_geo, gathered, given}
+use Rattle.sop_cook.specs.SerialCook.{cook_of, file_geo, merge_geo, gathered, given}
 use Rattle.sop_cook.specs.Loads.{file_in}
-use Rattle.sop_cook.specs.Keeping.{IsKept, IsReady, Tells, TellsAll, TellsMade}
-use Rattle.sop_cook.proofs.SerialCookLemmas.{source_used, source_within}
+use Rattle.sop_cook.specs.Keeping.{IsKept, Tells, TellsAll, TellsMade}
+use Rattle.sop_net.proofs.UsedLemmas.{source_used, source_within}
 use Rattle.sop_cook.proofs.KeptLemmas.{kept_taken, kept_put}
-use Rattle.sop_cook.proofs.NodeLemmas.{read_node, read_found, node_fits, file_parms, first_parm, wires_used, merge_inputs}
-use Rattle.sop_cook.proofs.CookLemmas.{Gathered, gathered_past, gathered_more, gathered_failed, gathered_all, tells_merge, tells_unmerged, told_visit, visit_known}
+use Rattle.sop_net.proofs.ReadLemmas.{few_used, file_parms, first_parm, node_fits, read_found, read_node, wires_used}
+use Rattle.sop_cook.proofs.CookLemmas.{Gathered, gathered_past, gathered_more, gathered_failed, tells_merge, tells_unmerged, told_visit, visit_known}
 use Rattle.sop_cook.proofs.serial.+cook.Goals as goal
 use Rattle.sop_cook.proofs.serial.+cook.Goals.{gather-in-Some+in-Ok+in-Ok-push, gather-in_default}
 
@@ -103,16 +103,13 @@ make-text-requires t c =
     subst (λ texts. 0 < length texts) (read_found c.args.net.now.nodes c.args.node r.node (λ n. n.parms) c.parms.result.now r.found c.parms.ensures) (file_parms r.node (r.is ∙ c.in-File.is) fits)
 
 pub make-gather-requires : goal.make-gather-requires
-make-gather-requires t c =
-    let r = read_node c.args.net.now.nodes c.args.node (λ n. n.kind) c.kind.result c.kind.ensures in
-    let fits = node_fits c.args.net.now.nodes c.args.node r.node c.is_network.ensures.network.nodes r.found in
-    let kind = r.is ∙ c.in-Merge.is in (
-      omega arith,
-      (
-        c.requires.live,
-        (c.requires.within, (subst (λ wires. length wires ≤ 32) (sym (wires_used c.args.net.now.nodes c.args.node r.node type.Merge r.found kind)) (merge_inputs r.node kind fits), c.requires.kept)),
-      ),
-    )
+make-gather-requires t c = (
+  omega arith,
+  (
+    c.requires.live,
+    (c.requires.within, (few_used c.args.net.now.nodes c.args.node c.is_network.ensures.network.nodes, c.requires.kept)),
+  ),
+)
 
 pub make-returns-in-File-clause-tells : goal.make-returns-in-File-clause-tells
 make-returns-in-File-clause-tells t c =

@@ -1,8 +1,8 @@
 use Rattle.sop_cook.specs.SerialCook.{cook_of}
 use Rattle.sop_cook.specs.Loads.{file_in}
 use Rattle.sop_cook.proofs.KeptLemmas.{kept_none}
-use Rattle.std.proofs.Common.{◌≡◌, refl}
-use Rattle.std.specs.Prelude.{Result, Ok, Err, IfErr, List, ℕ}
+use Rattle.std.proofs.Common.{◌≡◌}
+use Rattle.std.specs.Prelude.{Result, Ok, Err, IfErr, List}
 use Rattle.sop_model.specs.declared.geo.Geo.{Geo}
 use Rattle.sop_net.specs.declared.node.Node.{Node}
 use Rattle.sop_net.specs.Network.{IsLive}

@@ -1,5 +1,5 @@
 use Rattle.std.proofs.Common.{◌∙◌, sym, arith}
-use Rattle.sop_cook.proofs.SerialCookLemmas.{source_used, source_within}
+use Rattle.sop_net.proofs.UsedLemmas.{source_used, source_within}
 use Rattle.sop_cook.proofs.uses.+count.Goals as goal
 
 pub count-requires : goal.count-requires

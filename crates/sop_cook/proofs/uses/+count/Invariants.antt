@@ -1,4 +1,4 @@
-use Rattle.std.proofs.Common.{◌≡◌, length, ℕ}
+use Rattle.std.proofs.Common.{◌≡◌, length}
 use Rattle.sop_cook.proofs.uses.+count.Given as goal
 
 abbrev pub decreases-count : goal.decreases-count

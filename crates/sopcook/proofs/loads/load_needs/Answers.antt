@@ -1,7 +1,7 @@
-use Rattle.std.proofs.Common.{◌≡◌, ◌≤◌, ◌∙◌, sym, subst, drop, length, arith, take}
+use Rattle.std.proofs.Common.{◌≤◌, sym, subst, drop, length, arith}
 use Rattle.std.specs.Prelude.{All}
 use Rattle.sop_net.specs.Needs.{needed}
-use Rattle.sopcook.specs.Loads.{HasFilesOf, IsFileNode}
+use Rattle.sopcook.specs.Loads.{IsFileNode}
 use Rattle.sopcook.proofs.LoadsLemmas.{needed_files, taken_front}
 use Rattle.sopcook.proofs.loads.load_needs.Goals as goal
 

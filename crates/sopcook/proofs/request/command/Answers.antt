@@ -1,7 +1,7 @@
-use Rattle.std.proofs.Common.{◌≡◌, ◌∙◌, ap, ap₂, rules, codes}
+use Rattle.std.proofs.Common.{◌≡◌, ◌∙◌, ap₂, rules, codes}
 use Rattle.std.proofs.lemmas.Result.{IfOk-weaker}
-use Rattle.clap.specs.Words.{App, Rule, app_of, rule_of, new_app, new_rule, with_rule}
-use Rattle.sopcook.specs.Request.{sopcook_app, bare_app, positional, short_option, long_option}
+use Rattle.clap.specs.Words.{app_of, rule_of, with_rule}
+use Rattle.sopcook.specs.Request.{bare_app, positional, short_option, long_option}
 use Rattle.sopcook.proofs.request.command.Goals as goal
 
 pub returns : goal.returns

@@ -1,5 +1,5 @@
 use Rattle.std.proofs.Common.{◌≡◌, ◌∙◌, ap, subst, map}
-use Rattle.std.specs.Prelude.{string_bytes, Err}
+use Rattle.std.specs.Prelude.{string_bytes}
 use Rattle.clap.specs.Words.{FailsBy, fault_of, is_simple_and_free}
 use Rattle.sopcook.specs.declared.request.RequestEnd.TheVariants.{Refused}
 use Rattle.sopcook.specs.Request.{sopcook_app}

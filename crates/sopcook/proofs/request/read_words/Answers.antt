@@ -1,8 +1,8 @@
-use Rattle.std.proofs.Common.{◌≡◌, sym, ◌∙◌, ap, map}
-use Rattle.std.specs.Prelude.{option_map, string_bytes, Some, None}
+use Rattle.std.proofs.Common.{sym, ◌∙◌, ap, map}
+use Rattle.std.specs.Prelude.{option_map, string_bytes}
 use Rattle.clap.specs.Words.{found_of}
 use Rattle.sopcook.specs.Request.{request_seen}
-use Rattle.sopcook.proofs.RequestLemmas.{request_is, untaken}
+use Rattle.sopcook.proofs.RequestLemmas.{request_is}
 use Rattle.sopcook.proofs.request.read_words.Goals as goal
 
 pub returns-in-Some-clause-ok : goal.returns-in-Some-clause-ok

@@ -1,4 +1,4 @@
-use Rattle.std.proofs.Common.{◌≡◌, rules, ap, ◌∙◌}
+use Rattle.std.proofs.Common.{◌≡◌, rules}
 use Rattle.sop_outside.specs.Told.{appended}
 use Rattle.sopcook.specs.Answer.{node_answer}
 use Rattle.sopcook.proofs.DeliveryLemmas.{part_behind}
