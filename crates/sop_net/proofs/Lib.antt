@@ -21,3 +21,4 @@ pub mod RoomLemmas
 pub mod NeedsLemmas
 pub mod ListingLemmas
 mod NeedsExamples
+mod Examples

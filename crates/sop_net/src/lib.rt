@@ -18,3 +18,6 @@ pub use kind::NodeType;
 pub use net::Net;
 pub use net_end::NetEnd;
 pub use node::{Node, NodeId, Parms, WireList};
+
+#[cfg(test)]
+mod tests;

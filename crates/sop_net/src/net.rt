@@ -1,5 +1,5 @@
 // The network and its steps.
-ghost use Rattle.std.specs.Prelude.{◌≡◌, ◌<◌, ◌≤◌, ◌⊎◌, ◌%◌, ◌↔◌, true, ◌∷◌, [], ◌++◌, length, drop, IsTrue, vec_len, vec_capacity, IfOk, IfErr, IfSome, OnOk, OnErr, Ok, Err, Some, option_map, slice_get, map, ℕ, Contains};
+ghost use Rattle.std.specs.Prelude.{◌≡◌, ◌≢◌, ◌<◌, ◌≤◌, ◌⊎◌, ◌%◌, ◌↔◌, true, ◌∷◌, [], ◌++◌, length, drop, IsTrue, vec_len, vec_capacity, IfOk, IfErr, IfSome, OnOk, OnErr, Ok, Err, Some, option_map, slice_get, map, ℕ, Contains};
 ghost use Rattle.sop_net.specs.Network.{empty_network, node_of, number_named, place_of, place_named, IsLive, IsNetwork, IsNodeOf, wire_at, wires_of, sources, used_sources, used_wires, switch_input};
 ghost use Rattle.sop_net.specs.Graph.{Within, Reaches, searched};
 ghost use Rattle.sop_net.specs.Steps.{added_node, with_node, set_node, wired_node, removed_node, unwired};
@@ -178,10 +178,11 @@ impl Net {
         Ok(())
     }
 
-    /// Removes a node and all wires that touch it. The only refusal is `NoNode`.
+    /// Removes a node and all wires that touch it. The only refusal is `NoNode`; it takes no memory.
     pub fn remove(&mut self, node: &str) -> Result<(), NetEnd>
         ensures ok { OnOk result (removed_node self.old node.now ≡ Ok self.new) }
         ensures refused { IfErr result (λ end. (end ≡ NetEnd.Memory) ⊎ (removed_node self.old node.now ≡ Err end)) }
+        ensures takes_no_memory { result ≢ Err NetEnd.Memory }
         ensures err { OnErr result (self.new ≡ self.old) }
     {
         let Some(at) = self.place_named(node) else {
