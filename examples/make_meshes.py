@@ -101,6 +101,12 @@ def made():
     files["merge/b.obj"] = obj(top)
     files["merge/expected.obj"] = obj(merged(house, top))
 
+    flat = box((-250_000, 1_500_000, -250_000), (2_250_000, 1_750_000, 3_250_000))
+    files["roofs/walls.obj"] = obj(house)
+    files["roofs/tip roof.obj"] = obj(top)
+    files["roofs/flat roof.obj"] = obj(flat)
+    files["roofs/expected.obj"] = obj(merged(house, flat))
+
     shapes = {
         "s": ("###", "#..", "###", "..#", "###"),
         "o": ("###", "#.#", "#.#", "#.#", "###"),

@@ -3,9 +3,10 @@
 
     checks.py PROGRAM [--only WORD]
 
-The groups are examples (each gives its expected.obj), cases (tests/cases/*.jsonl), streams (what can't be written),
-limits, launcher (the script sopcook) and house (the layout of the repository). With --only a check runs where its group
-or name has WORD. The last line is 'N passed, M failed', and the status is 0 where none failed.
+The groups are examples (each gives its expected.obj, and its expected.err where it echoes), cases
+(tests/cases/*.jsonl), streams (what can't be written), limits (sizes at their limit and past it, and networks with far
+too many ways upstream), launcher (the script sopcook) and house (the layout of the repository). With --only a check
+runs where its group or name has WORD. The last line is 'N passed, M failed', and the status is 0 where none failed.
 """
 import argparse
 import glob
@@ -17,6 +18,7 @@ import tempfile
 
 import house
 import launcher
+import sizes
 
 TOP = os.path.dirname(os.path.dirname(os.path.realpath(__file__)))
 SECONDS = 60
@@ -49,11 +51,18 @@ def compare(answer, wanted):
 
 def examples(program):
     for script in sorted(glob.glob(f"{TOP}/examples/*/*.cmd")):
-        name = os.path.relpath(script, TOP)
-        with open(f"{os.path.dirname(script)}/expected.obj", "rb") as file:
-            wanted = 0, file.read(), b""
+        name, expected = os.path.relpath(script, TOP), f"{os.path.dirname(script)}/expected"
+        with open(f"{expected}.obj", "rb") as file:
+            wanted = 0, file.read(), read_or_nothing(f"{expected}.err")
         yield name, lambda name=name, wanted=wanted: compare(cook(program, [name, "out"], TOP), wanted)
     yield "the meshes are those of make_meshes.py", meshes
+
+
+def read_or_nothing(path):
+    if not os.path.exists(path):
+        return b""
+    with open(path, "rb") as file:
+        return file.read()
 
 
 def meshes():
@@ -87,38 +96,50 @@ def run_case(program, case):
 
 
 def streams(program):
-    """A stream that takes nothing gives status 6, unless there is nothing to write on it."""
-    files = {"s": b"opadd file f\nopparm f file a.obj\nopadd merge m\n", "a.obj": b"v 0 0 0\n"}
-    by_shell = lambda node, ending: ["-c", f'"$0" s {node} {ending}', program]
-    for name, node, ending, status in [
-        ("a full standard output", "f", ">/dev/full", 6),
-        ("a closed standard output", "f", ">&-", 6),
-        ("a full standard error", "x", "2>/dev/full", 6),
-        ("a closed standard error", "x", "2>&-", 6),
-        ("nothing to write on a full output", "m", ">/dev/full", 0),
-        ("a full standard error that isn't needed", "m", "2>/dev/full", 0),
+    """A stream that takes nothing gives status 6, unless there is nothing to write on it. Echoed text comes first."""
+    quiet = b"opadd file f\nopparm f file a.obj\nopadd merge m\n"
+    files = {"s": quiet, "t": quiet + b"echo made it\n", "bad": b"opfoo\n", "a.obj": b"v 0 0 0\n"}
+    point = b"v 0 0 0\n"
+    for name, words, ending, wanted in [
+        ("a full standard output", "s f", ">/dev/full", (6, b"", b"")),
+        ("a closed standard output", "s f", ">&-", (6, b"", b"")),
+        ("a full standard output behind echoed text", "t f", ">/dev/full", (6, b"", b"made it\n")),
+        ("nothing to write on a full output", "s m", ">/dev/full", (0, b"", b"")),
+        ("nothing to write on a full output, behind echoed text", "t m", ">/dev/full", (0, b"", b"made it\n")),
+        ("a full standard error, where there is no such node", "s x", "2>/dev/full", (6, b"", b"")),
+        ("a closed standard error, where there is no such node", "s x", "2>&-", (6, b"", b"")),
+        ("a full standard error, where the words are refused", "s", "2>/dev/full", (6, b"", b"")),
+        ("a full standard error, where a line is refused", "bad f", "2>/dev/full", (6, b"", b"")),
+        ("a full standard error, where a file can't be read", "/ f", "2>/dev/full", (6, b"", b"")),
+        ("a full standard error under echoed text, with a geometry", "t f", "2>/dev/full", (6, b"", b"")),
+        ("a closed standard error under echoed text, with no geometry", "t m", "2>&-", (6, b"", b"")),
+        ("a full standard error that isn't needed", "s f", "2>/dev/full", (0, point, b"")),
     ]:
-        words, wanted = by_shell(node, ending), (status, b"", b"")
+        words = ["-c", f'"$0" {words} {ending}', program]
         yield name, lambda words=words, wanted=wanted: in_folder(
             files, lambda folder: compare(cook("/bin/sh", words, folder), wanted)
         )
 
 
 def limits(program):
-    """A geometry has at most 1,000,000 points, a script at most 4 MiB."""
-    merge = b"opadd file f\nopparm f file a.obj\nopadd merge m\nopwire m 0 f\nopwire m 1 f\n"
-    refused = 3, b"", b"sopcook: NotYet\n"
-    points = lambda count: b"v 0 0 0\n" * count
-    script = lambda lines: b"opadd file f\n" + b"opparm f file a.obj\n" * lines
-    for name, files, node, wanted in [
-        ("a merge of 1,000,000 points", {"s": merge, "a.obj": points(500_000)}, "m", (0, points(1_000_000), b"")),
-        ("a merge of 1,000,002 points", {"s": merge, "a.obj": points(500_001)}, "m", refused),
-        ("a script of 4,194,293 bytes", {"s": script(209_714), "a.obj": points(1)}, "f", (0, points(1), b"")),
-        ("a script of 4,194,313 bytes", {"s": script(209_715), "a.obj": points(1)}, "f", refused),
-    ]:
+    for name, files, node, wanted in sizes.checks():
         yield name, lambda files=files, node=node, wanted=wanted: in_folder(
             files, lambda folder: compare(cook(program, ["s", node], folder), wanted)
         )
+    for name, size, fault in [
+        ("a file of 64 MiB without a line end", 67_108_864, b"NotYet"),
+        ("a file of 64 MiB and a byte", 67_108_865, b"Limit"),
+    ]:
+        yield name, lambda size=size, fault=fault: in_folder(
+            {"s": b"opadd file f\nopparm f file a.obj\n"}, lambda folder: cook_hole(program, folder, size, fault)
+        )
+
+
+def cook_hole(program, folder, size, fault):
+    """Cooks a file of so many zero bytes, which take no room on the disk."""
+    with open(f"{folder}/a.obj", "wb") as file:
+        file.truncate(size)
+    return compare(cook(program, ["s", "f"], folder), (4, b"", b"sopcook: f: " + fault + b"\n"))
 
 
 def outcome(check):

@@ -5,8 +5,9 @@
 
 For N from 1 on the program is run with its Nth request failing, and once more with the Nth and all later ones failing,
 until there is no Nth. Each run must end with the cook's own status and bytes, or with status 7 and on each stream a
-prefix of the cook's own bytes. SCRIPT NODE are those of the merge example where none are given, and the program is
-crates/sopcook/out/sopcook. A C compiler is needed. This is no part of the gate. The last line is 'N passed, M failed'.
+prefix of the cook's own bytes. Where no SCRIPT NODE are given, they are those of the example roofs, whose command file
+sets variables, echoes, and has a switch and a merge. The program is crates/sopcook/out/sopcook. A C compiler is needed.
+This is no part of the gate. The last line is 'N passed, M failed'.
 """
 import argparse
 import os
@@ -69,7 +70,7 @@ def main():
     parser = argparse.ArgumentParser()
     parser.add_argument("--program", default=f"{TOP}/crates/sopcook/out/sopcook")
     parser.add_argument("--most", type=int, default=5000)
-    parser.add_argument("words", nargs="*", default=["examples/merge/merge.cmd", "out"])
+    parser.add_argument("words", nargs="*", default=["examples/roofs/roofs.cmd", "out"])
     args = parser.parse_args()
     passed = wrong = 0
     with tempfile.TemporaryDirectory() as folder:
