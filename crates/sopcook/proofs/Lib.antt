@@ -1,3 +1,4 @@
 pub mod DeliveryLemmas
 pub mod LoadsLemmas
 pub mod RequestLemmas
+pub mod CauseLemmas

@@ -1,5 +1,5 @@
 -- The loads of files that tell their bytes.
-use Rattle.std.specs.Prelude.{◌≡◌, ℕ, List, Result, Ok, Err, IsTrue, is_some, Some, Contains}
+use Rattle.std.specs.Prelude.{◌≡◌, ℕ, List, Result, Ok, Err, IsTrue, is_some, Some, Contains, ◌⊎◌}
 use Rattle.std.specs.FinMap as finite
 use Rattle.sop_outside.specs.Load.{Names, load_of}
 use Rattle.sop_outside.specs.declared.files.LoadEnd.{LoadEnd}
@@ -46,3 +46,11 @@ HasFilesOf nodes xs loads = (x : ℕ) (name : List ℕ) → Contains xs x → fi
 -- a `file` node stands under this number
 abbrev pub IsFileNode : List Node → ℕ → Type 0
 IsFileNode nodes x = IsTrue (is_some (file_of nodes x))
+
+-- some file was missing
+abbrev pub HasMissing : Loads → Type 0
+HasMissing loads = (name : List ℕ) × (finite.get loads name ≡ Some load.Missing)
+
+-- a file that is missing now was so before, or a miss was counted
+abbrev pub MissesBy : Loads → Loads → Type 0 → Type 0
+MissesBy old new missed = HasMissing new → HasMissing old ⊎ missed

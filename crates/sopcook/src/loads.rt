@@ -1,9 +1,9 @@
 // The files that a cook needs, loaded before any is read.
-ghost use Rattle.std.specs.Prelude.{◌≡◌, All, Err, IfOk, IfSome, OnOk};
-ghost use Rattle.sop_outside.specs.Causes.{Counts};
+ghost use Rattle.std.specs.Prelude.{◌≡◌, ◌≤◌, All, Err, Ok, IfOk, IfSome, OnOk};
+ghost use Rattle.sop_outside.specs.Causes.{Counts, Rose};
 ghost use Rattle.sop_net.specs.Needs.{needed};
 ghost use Rattle.sop_net.specs.Network.{IsLive};
-ghost use Rattle.sopcook.specs.Loads.{Has, HasFilesOf, HoldsLoads, IsFileNode, Keeps, told_files};
+ghost use Rattle.sopcook.specs.Loads.{Has, HasFilesOf, HasMissing, HoldsLoads, IsFileNode, Keeps, MissesBy, told_files};
 
 use crate::run_end::RunEnd;
 use sop_cook::{Loaded, LoadedFile};
@@ -22,6 +22,7 @@ fn load_one<F: Files>(files: &mut F, alloc: Global, name: &str) -> Result<Loaded
     ensures told { F.told files.new ≡ F.told files.old }
     ensures faults { Counts (F.faults files.old) (F.faults files.new) (result ≡ Err RunEnd.Read) }
     ensures load { IfSome (F.told files.old) (λ names. IfOk result (λ load. load ≡ told_files names name.now)) }
+    ensures misses { Counts (F.misses files.old) (F.misses files.new) (result ≡ Ok LoadedFile.Missing) }
 {
     match files.load(alloc, name, FILE_LIMIT) {
         Ok(bytes) => Ok(LoadedFile::Bytes(ByteList::from_vec(bytes))),
@@ -44,6 +45,8 @@ fn load_file<F: Files>(
     ensures loads { IfSome (F.told files.old) (λ names. HoldsLoads names loaded.old → HoldsLoads names loaded.new) }
     ensures kept { Keeps loaded.old loaded.new }
     ensures here { OnOk result (Has loaded.new name.now) }
+    ensures misses_later { F.misses files.old ≤ F.misses files.new }
+    ensures missing { OnOk result (MissesBy loaded.old loaded.new (Rose (F.misses files.old) (F.misses files.new))) }
 {
     let load = load_one(files, alloc, name)?;
     loaded.add(name, load)?;
@@ -62,6 +65,8 @@ fn load_files<F: Files>(
     ensures faults { Counts (F.faults files.old) (F.faults files.new) (result ≡ Err RunEnd.Read) }
     ensures loads { IfSome (F.told files.old) (λ names. IfOk result (HoldsLoads names)) }
     ensures all { IfOk result (HasFilesOf net.now.nodes nodes.now) }
+    ensures misses_later { F.misses files.old ≤ F.misses files.new }
+    ensures missing { IfOk result (λ loaded. HasMissing loaded → Rose (F.misses files.old) (F.misses files.new)) }
 {
     net.is_network();
     let mut loaded = Loaded::new(alloc);
@@ -83,6 +88,8 @@ pub fn load_needs<F: Files>(
     ensures faults { Counts (F.faults files.old) (F.faults files.new) (result ≡ Err RunEnd.Read) }
     ensures loads { IfSome (F.told files.old) (λ names. IfOk result (HoldsLoads names)) }
     ensures all { IfOk result (HasFilesOf net.now.nodes (needed net.now.nodes node)) }
+    ensures misses_later { F.misses files.old ≤ F.misses files.new }
+    ensures missing { IfOk result (λ loaded. HasMissing loaded → Rose (F.misses files.old) (F.misses files.new)) }
 {
     let mut nodes = vec![in alloc; node; MOST_NODES]?;
     let count = net.needs(node, &mut nodes);

@@ -1,11 +1,11 @@
 // What a run begins with: its words and its script.
-ghost use Rattle.std.specs.Prelude.{◌≡◌, ◌≤◌, length, Err, IfOk, IfSome, map, string_bytes};
+ghost use Rattle.std.specs.Prelude.{◌≡◌, ◌≤◌, length, Err, IfOk, IfSome, IsOkAnd, map, string_bytes};
 ghost use Rattle.sop_outside.specs.Causes.{Counts};
 ghost use Rattle.sop_outside.specs.Load.{load_of};
 ghost use Rattle.hscript_text.specs.Script.{script_of};
 ghost use Rattle.sopcook.specs.Loads.{script_limit};
 ghost use Rattle.sopcook.specs.Answer.{opening_of, loaded_opening, script_opening};
-ghost use Rattle.sopcook.specs.Delivery.{IsOpening};
+ghost use Rattle.sopcook.specs.Delivery.{IsLoaded, IsOpening, SaysNoScript, SaysTooLong};
 
 use crate::answer::Answer;
 use crate::request::{RequestEnd, read_words};
@@ -32,6 +32,7 @@ fn open_script(alloc: Global, bytes: &[u8], node: &str) -> Result<Opening, RunEn
     ensures ok { IfOk result (λ opening. opening ≡ script_opening node.now (script_of bytes.now)) }
     ensures read { result ≡ Err RunEnd.Read → ⊥ }
     ensures answer { IfOk result IsOpening }
+    ensures loaded { IfOk result IsLoaded }
 {
     match read_script(alloc, bytes) {
         Ok(script) => Ok(Opening::Cooking(script, Text::from_str(alloc, node)?)),
@@ -53,6 +54,8 @@ fn load_script<F: Files>(
     ensures faults { Counts (F.faults files.old) (F.faults files.new) (result ≡ Err RunEnd.Read) }
     ensures ok { IfOk result (λ opening. IfSome (F.told files.old) (λ names. opening ≡ loaded_opening node.now (load_of names script.now script_limit))) }
     ensures answer { IfOk result IsOpening }
+    ensures misses { Counts (F.misses files.old) (F.misses files.new) (IsOkAnd result SaysNoScript) }
+    ensures overs { Counts (F.overs files.old) (F.overs files.new) (IsOkAnd result SaysTooLong) }
 {
     match files.load(alloc, script, SCRIPT_LIMIT) {
         Ok(bytes) => open_script(alloc, &bytes, node),
@@ -69,6 +72,8 @@ pub fn open<F: Files>(alloc: Global, words: &[String], files: &mut F) -> Result<
     ensures faults { Counts (F.faults files.old) (F.faults files.new) (result ≡ Err RunEnd.Read) }
     ensures ok { IfOk result (λ opening. IfSome (F.told files.old) (λ names. opening ≡ opening_of (map string_bytes words.now) names)) }
     ensures answer { IfOk result IsOpening }
+    ensures misses { Counts (F.misses files.old) (F.misses files.new) (IsOkAnd result SaysNoScript) }
+    ensures overs { Counts (F.overs files.old) (F.overs files.new) (IsOkAnd result SaysTooLong) }
 {
     match read_words(alloc, words) {
         Ok(request) => load_script(alloc, files, request.script, request.node),

@@ -1,4 +1,8 @@
 use Rattle.sopcook.proofs.LoadsLemmas.{keeps_added, has_it, told_added}
+use Rattle.std.proofs.Common.{◌≡◌, ◌∙◌, ap}
+use Rattle.std.specs.Prelude.{Ok}
+use Rattle.sop_outside.specs.Causes.{Rose}
+use Rattle.sopcook.proofs.CauseLemmas.{missing_added}
 use Rattle.sopcook.proofs.loads.load_file.Goals as goal
 
 pub returns-clause-loads : goal.returns-clause-loads
@@ -9,3 +13,8 @@ returns-clause-kept g c = keeps_added c.args.loaded.now c.add.new.self c.args.na
 
 pub returns-clause-here : goal.returns-clause-here
 returns-clause-here g c = has_it c.args.loaded.now c.add.new.self c.args.name.now c.in_ok-load.load c.in_ok-add.ensures.ok
+
+pub returns-clause-missing : goal.returns-clause-missing
+returns-clause-missing g c =
+    missing_added c.args.loaded.now c.add.new.self c.args.name.now c.in_ok-load.load (Rose (g.F.Files.misses c.args.files.now) (g.F.Files.misses c.load_one.new.files)) c.in_ok-add.ensures.ok
+    (λ e. c.load_one.ensures.misses.rose (c.in_ok-load.was ∙ ap Ok e))

@@ -1,4 +1,4 @@
-use Rattle.std.proofs.Common.{◌≡◌, ◌<◌, ◌∙◌, sym, ap, subst, arith, length, take, rules, ◌++◌, ◌∷◌, []}
+use Rattle.std.proofs.Common.{◌≡◌, ◌<◌, ◌∙◌, sym, ap, subst, arith, length, take, rules, inl, inr, ◌++◌, ◌∷◌, []}
 use Rattle.std.specs.Prelude.{ℕ, List, Some}
 use Rattle.std.proofs.lemmas.List.{take_more}
 use Rattle.std.proofs.Math.Seq.{take-length}
@@ -7,6 +7,7 @@ use Rattle.sop_net.specs.Needs.{file_of}
 use Rattle.sop_net.proofs.ReadLemmas.{file_parms, first_parm, node_fits, read_node}
 use Rattle.sopcook.specs.Loads.{HasFilesOf, IsFileNode}
 use Rattle.sopcook.proofs.LoadsLemmas.{holds_none, files_none, files_more, told_more, file_is_file, file_name}
+use Rattle.sopcook.proofs.CauseLemmas.{none_missing, rose_before, rose_later}
 use Rattle.sopcook.proofs.loads.load_files.Goals as goal
 
 pub loop-node-init : goal.loop-node-init
@@ -15,6 +16,8 @@ loop-node-init g c = (
   omega arith,
   holds_none (g.F.Files.told c.args.files.now) c.new-loaded.result c.new-loaded.ensures,
   files_none c.args.net.now.nodes c.new-loaded.result,
+  omega arith,
+  λ has. absurd (none_missing c.new-loaded.result c.new-loaded.ensures has),
 )
 
 pub text-requires : goal.text-requires
@@ -43,6 +46,12 @@ loop-node-preserved g c =
       told_more (g.F.Files.told c.args.files.now) (g.F.Files.told c.loop-node.files) c.loop-node.loaded c.load_file.new.loaded inv.0 inv.2 c.in_ok-load_file.ensures.loads,
       subst (λ xs. HasFilesOf nodes xs c.load_file.new.loaded) (sym more)
           (files_more nodes (take i c.args.nodes.now) x c.loop-node.loaded c.load_file.new.loaded c.text.result.now inv.3 c.in_ok-load_file.ensures.kept c.in_ok-load_file.ensures.here own),
+      omega (arith, inv.4, c.load_file.ensures.misses_later),
+      λ has.
+          elim (c.in_ok-load_file.ensures.missing has) [
+            | inl before ↦ rose_later (g.F.Files.misses c.args.files.now) (g.F.Files.misses c.loop-node.files) (g.F.Files.misses c.load_file.new.files) (inv.5 before) c.load_file.ensures.misses_later
+            | inr now ↦ rose_before (g.F.Files.misses c.args.files.now) (g.F.Files.misses c.loop-node.files) (g.F.Files.misses c.load_file.new.files) inv.4 now
+          ],
     )
 
 pub returns-clause-all : goal.returns-clause-all
