@@ -115,7 +115,7 @@ covers nodes so_far (x ∷ xs) y name h is = elim (contains_cons x y xs h) [
 ]
 
 -- the loads of what is needed are those of the whole walk
-walk_loads : (nodes : List Node) (x : ℕ) (loads : Loads) → HasFilesOf nodes (needed nodes x) loads → HasFilesOf nodes (walk (length nodes) nodes x) loads
+pub walk_loads : (nodes : List Node) (x : ℕ) (loads : Loads) → HasFilesOf nodes (needed nodes x) loads → HasFilesOf nodes (walk (length nodes) nodes x) loads
 walk_loads nodes x loads has y name here is =
     let z = covers nodes [] (walk (length nodes) nodes x) y name here is in has z.node name z.here z.file
 

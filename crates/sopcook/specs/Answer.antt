@@ -3,13 +3,11 @@
 -- The words are read, then the script. Its echoed text comes first on `err`. The node is looked up and cooked. A geometry is written as OBJ on
 -- `out`, with status 0. Refusals are a line on `err`: of words status 2; of a script that is missing, too long or refused, and of a node that
 -- isn't there, status 3; of a fault of the cook status 4, with the fault's node.
-use Rattle.std.specs.Prelude.{ℕ, List, [], ◌∷◌, ◌++◌, codes, decimal, Option, None, Some, Result, Ok, Err, unwrap_or, option_map, ◌≡◌, ⊤}
+use Rattle.std.specs.Prelude.{ℕ, List, [], ◌∷◌, ◌++◌, codes, decimal, Option, None, Some, Result, Ok, Err, unwrap_or, option_map}
 use Rattle.sop_outside.specs.Load.{Names, load_of}
 use Rattle.sop_outside.specs.declared.files.LoadEnd.{LoadEnd}
 use Rattle.sop_outside.specs.declared.files.LoadEnd.TheVariants as end
 use Rattle.sop_model.specs.Faults.{fault_text}
-use Rattle.sop_model.specs.declared.fault.Fault.{Fault}
-use Rattle.sop_model.specs.declared.fault.Fault.TheVariants as fault
 use Rattle.geo_text.specs.ObjWriting.{obj_text}
 use Rattle.sop_net.specs.declared.node.Node.{Node}
 use Rattle.sop_net.specs.Network.{node_of, number_named}
@@ -102,18 +100,3 @@ echo_in (Cooking script node) = script.echoed
 -- the line after a load that failed
 abbrev pub read_line : List ℕ
 read_line = said (codes "read fault")
-
--- the faults that nodes give by now
-abbrev pub IsBuiltFault : Fault → Type 0
-IsBuiltFault (fault.NoInput input) = ⊤
-IsBuiltFault fault.NoFile = ⊤
-IsBuiltFault fault.Limit = ⊤
-IsBuiltFault fault.NotYet = ⊤
-IsBuiltFault other = ⊥
-
--- an answer is that of a fault, and NoFile comes only where a miss was counted
-pub record IsFaultAnswer (nodes : List Node) (answer : Answer) (missed : Type 0) : Type 0 where
-  pub failure : Failure
-  pub is : answer ≡ fault_answer nodes failure
-  pub built : IsBuiltFault failure.fault
-  pub no_file : failure.fault ≡ fault.NoFile → missed

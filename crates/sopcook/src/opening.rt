@@ -1,11 +1,12 @@
 // What a run begins with: its words and its script.
-ghost use Rattle.std.specs.Prelude.{◌≡◌, ◌≤◌, length, Err, IfOk, IfSome, IsOkAnd, map, string_bytes};
-ghost use Rattle.sop_outside.specs.Causes.{Counts};
+ghost use Rattle.std.specs.Prelude.{◌≡◌, ◌≤◌, length, Err, IfOk, IfSome, List, None, map, ℕ, string_bytes};
+ghost use Rattle.sop_outside.specs.Causes.{Counts, Rose};
 ghost use Rattle.sop_outside.specs.Load.{load_of};
 ghost use Rattle.hscript_text.specs.Script.{script_of};
+ghost use Rattle.sopcook.specs.Request.{request_of};
 ghost use Rattle.sopcook.specs.Loads.{script_limit};
-ghost use Rattle.sopcook.specs.Answer.{opening_of, loaded_opening, script_opening};
-ghost use Rattle.sopcook.specs.Delivery.{IsLoaded, IsOpening, SaysNoScript, SaysTooLong};
+ghost use Rattle.sopcook.specs.Answer.{opening_of, loaded_opening, script_opening, words_answer};
+ghost use Rattle.sopcook.specs.Delivery.{IsOpening, IsScriptOpening};
 
 use crate::answer::Answer;
 use crate::request::{RequestEnd, read_words};
@@ -31,8 +32,7 @@ fn open_script(alloc: Global, bytes: &[u8], node: &str) -> Result<Opening, RunEn
     requires { length bytes.now ≤ 4194304 }
     ensures ok { IfOk result (λ opening. opening ≡ script_opening node.now (script_of bytes.now)) }
     ensures read { result ≡ Err RunEnd.Read → ⊥ }
-    ensures answer { IfOk result IsOpening }
-    ensures loaded { IfOk result IsLoaded }
+    ensures answer { IfOk result IsScriptOpening }
 {
     match read_script(alloc, bytes) {
         Ok(script) => Ok(Opening::Cooking(script, Text::from_str(alloc, node)?)),
@@ -53,9 +53,8 @@ fn load_script<F: Files>(
     ensures told { F.told files.new ≡ F.told files.old }
     ensures faults { Counts (F.faults files.old) (F.faults files.new) (result ≡ Err RunEnd.Read) }
     ensures ok { IfOk result (λ opening. IfSome (F.told files.old) (λ names. opening ≡ loaded_opening node.now (load_of names script.now script_limit))) }
-    ensures answer { IfOk result IsOpening }
-    ensures misses { Counts (F.misses files.old) (F.misses files.new) (IsOkAnd result SaysNoScript) }
-    ensures overs { Counts (F.overs files.old) (F.overs files.new) (IsOkAnd result SaysTooLong) }
+    ensures answer { (words : List (List ℕ)) → IfOk result (IsOpening words (Rose (F.misses files.old) (F.misses files.new)) (Rose (F.overs files.old) (F.overs files.new))) }
+    ensures misses_later { F.misses files.old ≤ F.misses files.new }
 {
     match files.load(alloc, script, SCRIPT_LIMIT) {
         Ok(bytes) => open_script(alloc, &bytes, node),
@@ -71,9 +70,9 @@ pub fn open<F: Files>(alloc: Global, words: &[String], files: &mut F) -> Result<
     ensures told { F.told files.new ≡ F.told files.old }
     ensures faults { Counts (F.faults files.old) (F.faults files.new) (result ≡ Err RunEnd.Read) }
     ensures ok { IfOk result (λ opening. IfSome (F.told files.old) (λ names. opening ≡ opening_of (map string_bytes words.now) names)) }
-    ensures answer { IfOk result IsOpening }
-    ensures misses { Counts (F.misses files.old) (F.misses files.new) (IsOkAnd result SaysNoScript) }
-    ensures overs { Counts (F.overs files.old) (F.overs files.new) (IsOkAnd result SaysTooLong) }
+    ensures answer { IfOk result (IsOpening (map string_bytes words.now) (Rose (F.misses files.old) (F.misses files.new)) (Rose (F.overs files.old) (F.overs files.new))) }
+    ensures misses_later { F.misses files.old ≤ F.misses files.new }
+    ensures words { request_of (map string_bytes words.now) ≡ None → IfOk result (λ opening. opening ≡ Opening.Refused words_answer) }
 {
     match read_words(alloc, words) {
         Ok(request) => load_script(alloc, files, request.script, request.node),

@@ -1,13 +1,14 @@
 // The top call: words and files in, bytes and a status out.
-ghost use Rattle.std.specs.Prelude.{◌≡◌, ◌≤◌, ◌<◌, ◌⊎◌, ◌++◌, Err, IfErr, IfOk, IfSome, map, string_bytes, [], Some};
+ghost use Rattle.std.specs.Prelude.{◌≡◌, None, ◌≤◌, ◌<◌, ◌⊎◌, ◌++◌, Err, IfErr, IfOk, IfSome, map, string_bytes, [], Some};
 ghost use Rattle.sop_outside.specs.Causes.{Counts, Rose};
 ghost use Rattle.sop_outside.specs.Told.{appended, AppendsPrefix};
 ghost use Rattle.sop_net.specs.Network.{IsLive};
 ghost use Rattle.sop_cook.specs.SerialCook.{Outcome, cook_of};
 ghost use Rattle.sop_cook.specs.Keeping.{IsAtLive, Tells};
+ghost use Rattle.sopcook.specs.Request.{request_of};
 ghost use Rattle.sopcook.specs.Loads.{told_files};
-ghost use Rattle.sopcook.specs.Answer.{answer_of, read_line, cook_answer, node_answer, echoing};
-ghost use Rattle.sopcook.specs.Delivery.{Told, Delivers, DeliversPrefix, DeliversReadFault, DeliversPartOfReadFault, StopsShort, IsAnswered, IsStatus};
+ghost use Rattle.sopcook.specs.Answer.{answer_of, read_line, cook_answer, no_node, node_answer, echoing, words_answer};
+ghost use Rattle.sopcook.specs.Delivery.{Told, Delivers, DeliversPrefix, DeliversReadFault, DeliversPartOfReadFault, SaysFault, SaysRefusal, StopsShort, IsAnswered, IsEndAnswer, IsNamedAnswer, IsNodeAnswer, IsStatus};
 
 use crate::answer::Answer;
 use crate::loads::load_needs;
@@ -25,6 +26,7 @@ fn answer_end(alloc: Global, net: &Net, end: &CookEnd) -> Result<Answer, RunEnd>
     ensures ok { IfOk result (λ answer. (outcome : Outcome) → Tells outcome (Err end.now) → answer ≡ cook_answer net.now.nodes outcome) }
     ensures status { IfOk result (λ answer. IsAnswered answer.status) }
     ensures memory { IfErr result (λ stop. stop ≡ RunEnd.Memory) }
+    ensures fault { IfOk result (IsEndAnswer net.now.nodes end.now) }
 {
     match end {
         CookEnd::Fault { node, fault } => Ok(Answer::of_fault(alloc, net, *node, fault)?),
@@ -44,6 +46,8 @@ fn answer_node<F: Files>(
     ensures faults { Counts (F.faults files.old) (F.faults files.new) (result ≡ Err RunEnd.Read) }
     ensures ok { IfOk result (λ answer. IfSome (F.told files.old) (λ names. answer ≡ cook_answer net.now.nodes (cook_of (told_files names) net.now.nodes node))) }
     ensures status { IfOk result (λ answer. IsAnswered answer.status) }
+    ensures caused { IfOk result (IsNodeAnswer net.now.nodes (Rose (F.misses files.old) (F.misses files.new))) }
+    ensures misses_later { F.misses files.old ≤ F.misses files.new }
 {
     let loaded = load_needs(files, alloc, net, node)?;
     match cook(alloc, net, node, &loaded) {
@@ -63,6 +67,8 @@ fn answer_named<F: Files>(
     ensures faults { Counts (F.faults files.old) (F.faults files.new) (result ≡ Err RunEnd.Read) }
     ensures ok { IfOk result (λ answer. IfSome (F.told files.old) (λ names. answer ≡ node_answer names net.now.nodes name.now)) }
     ensures status { IfOk result (λ answer. IsAnswered answer.status) }
+    ensures caused { IfOk result (IsNamedAnswer net.now.nodes (Rose (F.misses files.old) (F.misses files.new))) }
+    ensures misses_later { F.misses files.old ≤ F.misses files.new }
 {
     match net.find(name) {
         Some(node) => answer_node(alloc, net, node, files),
@@ -128,6 +134,10 @@ fn finish<F: Files, O: Sink, E: Sink>(
     ensures files_later { F.faults files.old ≤ F.faults files.new }
     ensures out_later { O.faults out.old ≤ O.faults out.new }
     ensures err_later { E.faults err.old ≤ E.faults err.new }
+    ensures three { result ≡ 3 → E.told err.new ≡ appended (E.told err.old) no_node.err }
+    ensures two { result ≡ 2 → ⊥ }
+    ensures four { result ≡ 4 → SaysFault (Rose (F.misses files.old) (F.misses files.new)) (E.told err.old) (E.told err.new) }
+    ensures misses_later { F.misses files.old ≤ F.misses files.new }
 {
     match answer_named(alloc, net, node, files) {
         Ok(answer) => deliver(&answer, out, err),
@@ -159,6 +169,10 @@ fn echo_and_finish<F: Files, O: Sink, E: Sink>(
     ensures files_later { F.faults files.old ≤ F.faults files.new }
     ensures out_later { O.faults out.old ≤ O.faults out.new }
     ensures err_later { E.faults err.old ≤ E.faults err.new }
+    ensures three { result ≡ 3 → E.told err.new ≡ appended (E.told err.old) (script.now.echoed ++ no_node.err) }
+    ensures two { result ≡ 2 → ⊥ }
+    ensures four { result ≡ 4 → SaysFault (Rose (F.misses files.old) (F.misses files.new)) (E.told err.old) (E.told err.new) }
+    ensures misses_later { F.misses files.old ≤ F.misses files.new }
 {
     if put(err, script.echoed.as_slice()).is_err() {
         return 6;
@@ -196,6 +210,15 @@ pub fn run<F: Files, O: Sink, E: Sink>(
         (record { out = O.told out.old; err = E.told err.old }) (record { out = O.told out.new; err = E.told err.new }))
         ⊎ (Rose (F.faults files.old) (F.faults files.new) × DeliversPartOfReadFault (F.told files.old) (map string_bytes words.now)
         (record { out = O.told out.old; err = E.told err.old }) (record { out = O.told out.new; err = E.told err.new })) }
+
+    // What stands on `err` with 3 and 4 also where files tell nothing, and which count rose.
+    ensures refusal { result ≡ 3 → SaysRefusal (Rose (F.misses files.old) (F.misses files.new)) (Rose (F.overs files.old) (F.overs files.new)) (E.told err.old) (E.told err.new) }
+    ensures fault { result ≡ 4 → SaysFault (Rose (F.misses files.old) (F.misses files.new)) (E.told err.old) (E.told err.new) }
+
+    // Refused words are answered so whatever the files are, and no others are.
+    ensures words { result ≡ 2 → request_of (map string_bytes words.now) ≡ None }
+    ensures words_answered { request_of (map string_bytes words.now) ≡ None → result < 5 → Delivers words_answer result
+        (record { out = O.told out.old; err = E.told err.old }) (record { out = O.told out.new; err = E.told err.new }) }
 
     // Want of memory leaves a prefix of the answer on each sink.
     ensures memory { result ≡ 7 → StopsShort (F.told files.old) (map string_bytes words.now)
