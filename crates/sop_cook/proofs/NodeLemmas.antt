@@ -1,12 +1,12 @@
 -- What a cook reads of a node that stands.
 use Rattle.std.proofs.Common.{◌≡◌, Bool, true, false, cond, ◌==◌, ℕ, ◌<◌, ◌≤◌, List, [], ◌∷◌, length, refl, sym, ◌∙◌, ap, subst, arith}
-use Rattle.std.specs.Prelude.{All, Option, None, Some, slice_get, option_map}
+use Rattle.std.specs.Prelude.{All, Option, None, Some, IsTrue, is_some, bytes_eq, slice_get, option_map}
 use Rattle.std.proofs.lemmas.List.Elements.{All-head, All-tail}
 use Rattle.sop_net.specs.declared.node.Node.{Node}
 use Rattle.sop_net.specs.declared.kind.NodeType.{NodeType}
 use Rattle.sop_net.specs.declared.kind.NodeType.TheVariants as type
 use Rattle.sop_net.specs.NodeTable.{Parm, parms_of, inputs_of}
-use Rattle.sop_net.specs.Network.{node_of, parm_at, wire_at, switch_input, used_wires, wires_used_by, AreValues, IsNodeOf}
+use Rattle.sop_net.specs.Network.{node_of, node_named, number_named, parm_at, wire_at, switch_input, used_wires, wires_used_by, AreValues, IsLive, IsNodeOf}
 
 -- a read of a node that stands
 pub record Read {X : Type 0} (nodes : List Node) (x : ℕ) (read : Node → X) (v : X) : Type 0 where
@@ -50,3 +50,20 @@ wires_used nodes x n kind found is = ap used_wires found ∙ ap (λ k. wires_use
 
 pub merge_inputs : (n : Node) → n.kind ≡ type.Merge → IsNodeOf n → length n.wires ≤ 32
 merge_inputs n kind fits = let e : length n.wires ≡ 32 = fits.inputs ∙ ap inputs_of kind in omega (arith, e)
+
+-- a node that is found by its name stands
+pub live_named : (nodes : List Node) (name : List ℕ) (x : ℕ) → number_named nodes name ≡ Some x → IsLive nodes x
+live_named [] name x h = let no : ⊥ = cc in absurd no
+live_named (m ∷ nodes) name x h = by (live_named nodes name x) (bytes_eq m.name name) h
+  where
+    kept : (b : Bool) → IsLive nodes x → IsTrue (is_some (cond b (Some m) (node_of nodes x)))
+    kept true live = refl
+    kept false live = live
+
+    at : (b : Bool) → (m.number == x) ≡ b → m.number ≡ x → IsTrue (is_some (cond b (Some m) (node_of nodes x)))
+    at true is same = refl
+    at false is same = let no : ⊥ = grind arith in absurd no
+
+    by : (number_named nodes name ≡ Some x → IsLive nodes x) → (b : Bool) → option_map (λ n. n.number) (cond b (Some m) (node_named nodes name)) ≡ Some x → IsLive (m ∷ nodes) x
+    by rest true e = let same : m.number ≡ x = cc in at (m.number == x) refl same
+    by rest false e = kept (m.number == x) (rest e)

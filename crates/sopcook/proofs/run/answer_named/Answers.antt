@@ -1,5 +1,5 @@
 use Rattle.std.proofs.Common.{◌∙◌, sym}
-use Rattle.sopcook.proofs.LoadsLemmas.{live_named}
+use Rattle.sop_cook.proofs.NodeLemmas.{live_named}
 use Rattle.sopcook.proofs.run.answer_named.Goals as goal
 
 pub answer_node-requires : goal.answer_node-requires
