@@ -64,11 +64,7 @@ fn load_script<F: Files>(
 }
 
 /// The opening of a run with these words.
-pub fn open<F: Files>(
-    alloc: Global,
-    words: &[String],
-    files: &mut F,
-) -> Result<Opening, RunEnd>
+pub fn open<F: Files>(alloc: Global, words: &[String], files: &mut F) -> Result<Opening, RunEnd>
     ensures told { F.told files.new ≡ F.told files.old }
     ensures faults { Counts (F.faults files.old) (F.faults files.new) (result ≡ Err RunEnd.Read) }
     ensures ok { IfOk result (λ opening. IfSome (F.told files.old) (λ names. opening ≡ opening_of (map string_bytes words.now) names)) }

@@ -37,13 +37,12 @@ loop-node-preserved g c =
     let text = first_parm c.parms.result.now c.text.result.now c.text.ensures ∙ ap (λ ts. parm_at ts 0) (sym r.is) in
     let own : (file : List ℕ) → file_of nodes x ≡ Some file → file ≡ c.text.result.now = λ name is. sym (text ∙ file_name nodes x r.node name r.found is kind) in
     let more = take_more c.args.nodes.now i x c.loop-node-test.true ∙ ap (λ y. take i c.args.nodes.now ++ y ∷ []) (sym c.node-item.is) in
-    let inv = c.loop-node.invariant in
-    (
+    let inv = c.loop-node.invariant in (
       c.load_file.ensures.told ∙ inv.0,
       omega (arith, inv.1, c.load_file.ensures.faults.later),
       told_more (g.F.Files.told c.args.files.now) (g.F.Files.told c.loop-node.files) c.loop-node.loaded c.load_file.new.loaded inv.0 inv.2 c.in_ok-load_file.ensures.loads,
       subst (λ xs. HasFilesOf nodes xs c.load_file.new.loaded) (sym more)
-      (files_more nodes (take i c.args.nodes.now) x c.loop-node.loaded c.load_file.new.loaded c.text.result.now inv.3 c.in_ok-load_file.ensures.kept c.in_ok-load_file.ensures.here own),
+          (files_more nodes (take i c.args.nodes.now) x c.loop-node.loaded c.load_file.new.loaded c.text.result.now inv.3 c.in_ok-load_file.ensures.kept c.in_ok-load_file.ensures.here own),
     )
 
 pub returns-clause-all : goal.returns-clause-all
