@@ -11,3 +11,6 @@ mod uses;
 pub use cook_end::CookEnd;
 pub use loaded::{Loaded, LoadedFile};
 pub use serial::cook;
+
+#[cfg(test)]
+mod tests;

@@ -208,20 +208,3 @@ pub told_answer : (told : Option Names) (nodes : List Node) (x : ℕ) (loads : L
     → answer ≡ cook_answer nodes (cook_of (file_in loads) nodes x) → IfSome told (λ names. answer ≡ cook_answer nodes (cook_of (told_files names) nodes x))
 told_answer None nodes x loads answer has holds is = tt
 told_answer (Some names) nodes x loads answer has holds is = is ∙ ap (cook_answer nodes) (same_cook names nodes x loads has holds)
-
--- a node that is found by its name stands
-pub live_named : (nodes : List Node) (name : List ℕ) (x : ℕ) → number_named nodes name ≡ Some x → IsLive nodes x
-live_named [] name x h = let no : ⊥ = cc in absurd no
-live_named (m ∷ nodes) name x h = by (live_named nodes name x) (bytes_eq m.name name) h
-  where
-    kept : (b : Bool) → IsLive nodes x → IsTrue (is_some (cond b (Some m) (node_of nodes x)))
-    kept true live = refl
-    kept false live = live
-
-    at : (b : Bool) → (m.number == x) ≡ b → m.number ≡ x → IsTrue (is_some (cond b (Some m) (node_of nodes x)))
-    at true is same = refl
-    at false is same = let no : ⊥ = grind arith in absurd no
-
-    by : (number_named nodes name ≡ Some x → IsLive nodes x) → (b : Bool) → option_map (λ n. n.number) (cond b (Some m) (node_named nodes name)) ≡ Some x → IsLive (m ∷ nodes) x
-    by rest true e = let same : m.number ≡ x = cc in at (m.number == x) refl same
-    by rest false e = kept (m.number == x) (rest e)

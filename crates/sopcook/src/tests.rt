@@ -6,6 +6,9 @@ use std::test::Fail;
 const SCRIPT: &[u8] =
     b"opadd file f\nopparm f file a.obj\nopadd merge m\nopwire m 0 f\nopwire m 1 f\n";
 
+const TWO_FILES: &[u8] =
+    b"echo 1\nopadd file f\nopparm f file a.obj\nopadd file g\nopparm g file b\nopadd merge m\nopwire m 0 f\nopwire m 1 g\n";
+
 const OBJ: &[u8] = b"v 0 0 0\nv 1 0.50 0\nf 1 2 1\n";
 
 const MERGED: &[u8] = b"v 0 0 0\nv 1 0.5 0\nv 0 0 0\nv 1 0.5 0\nf 1 2 1\nf 3 4 3\n";
@@ -51,7 +54,8 @@ fn script_files(alloc: Global, script: &[u8], obj: &[u8]) -> Result<MemFiles, Al
 #[test]
 fn a_file_is_merged_with_itself(rt: HostRuntime) -> Result<(), Fail> {
     let mut files = script_files(rt.alloc(), SCRIPT, OBJ)?;
-    let ran = run_on(rt.alloc(), &["s", "m"], &mut files, 0)?;
+    let words = ["s", "-j", "64", "m", "--form", "obj"];
+    let ran = run_on(rt.alloc(), &words, &mut files, 0)?;
     assert_eq!(rt; ran.status, 0);
     assert_eq!(rt; ran.out.as_slice(), MERGED);
     assert!(rt; ran.err.is_empty());
@@ -68,43 +72,98 @@ fn an_empty_file_gives_nothing(rt: HostRuntime) -> Result<(), Fail> {
 }
 
 #[test]
-fn three_words_are_refused(rt: HostRuntime) -> Result<(), Fail> {
+fn words_are_refused(rt: HostRuntime) -> Result<(), Fail> {
     let mut files = script_files(rt.alloc(), SCRIPT, OBJ)?;
-    let ran = run_on(rt.alloc(), &["s", "f", "x"], &mut files, 0)?;
-    assert_eq!(rt; ran.status, 3);
-    assert_eq!(rt; ran.err.as_slice(), b"sopcook: NotYet\n".as_slice());
+    for words in [
+        &[][..],
+        &["s"],
+        &["s", "f", "x"],
+        &["s", "f", "-j", "0"],
+        &["s", "f", "-j", "65"],
+        &["s", "f", "--form", "x"],
+    ] {
+        let ran = run_on(rt.alloc(), words, &mut files, 0)?;
+        assert_eq!(rt; ran.status, 2);
+        assert_eq!(rt; ran.err.as_slice(), b"sopcook: words\n".as_slice());
+        assert!(rt; ran.out.is_empty());
+    }
     Ok(())
 }
 
 #[test]
-fn a_node_of_another_name_is_refused(rt: HostRuntime) -> Result<(), Fail> {
-    let mut files = script_files(rt.alloc(), b"", OBJ)?;
-    let ran = run_on(rt.alloc(), &["s", "x"], &mut files, 0)?;
-    assert_eq!(rt; ran.status, 3);
-    assert_eq!(rt; ran.err.as_slice(), b"sopcook: node: NoNode\n".as_slice());
+fn refusals_and_faults_are_told(rt: HostRuntime) -> Result<(), Fail> {
+    for (script, node, status, err) in [
+        (&b""[..], "x", 3, &b"sopcook: node: NoNode\n"[..]),
+        (
+            b"opadd null a\nopadd null b\nopwire a 0 b\nopwire b 0 a\n",
+            "a",
+            3,
+            b"sopcook: line 4: Cycle\n",
+        ),
+        (b"echo 1\nopfoo\n", "a", 3, b"sopcook: line 2: BadCommand\n"),
+        (
+            b"set n = null\nopadd $n b\necho made ${n}\n",
+            "b",
+            4,
+            b"made null\nsopcook: b: NoInput 0\n",
+        ),
+        (
+            b"opadd null a\nopadd null b\nopwire b 0 a\noprm a\n",
+            "b",
+            4,
+            b"sopcook: b: NoInput 0\n",
+        ),
+        (
+            b"opadd file f\nopparm f file b\nopadd null n\nopwire n 0 f\n",
+            "n",
+            4,
+            b"sopcook: f: NoFile\n",
+        ),
+        (b"opadd box b\n", "b", 4, b"sopcook: b: NotYet\n"),
+    ] {
+        let mut files = script_files(rt.alloc(), script, OBJ)?;
+        let ran = run_on(rt.alloc(), &["s", node], &mut files, 0)?;
+        assert_eq!(rt; ran.status, status);
+        assert_eq!(rt; ran.err.as_slice(), err);
+        assert!(rt; ran.out.is_empty());
+    }
     Ok(())
 }
 
 #[test]
-fn a_load_that_fails_is_said(rt: HostRuntime) -> Result<(), Fail> {
-    let mut files = script_files(rt.alloc(), SCRIPT, OBJ)?;
-    files.fail_at(2)?;
+fn a_script_that_is_missing_is_told(rt: HostRuntime) -> Result<(), Fail> {
+    let mut files = MemFiles::new(rt.alloc());
     let ran = run_on(rt.alloc(), &["s", "m"], &mut files, 0)?;
-    assert_eq!(rt; ran.status, 5);
-    assert!(rt; ran.out.is_empty());
-    assert_eq!(rt; ran.err.as_slice(), b"sopcook: read fault\n".as_slice());
+    assert_eq!(rt; ran.status, 3);
+    assert_eq!(rt;
+        ran.err.as_slice(),
+        b"sopcook: script: NoScript\n".as_slice()
+    );
+    Ok(())
+}
+
+/// The other input's file is missing, and nothing asks for it.
+#[test]
+fn a_switch_takes_one_input(rt: HostRuntime) -> Result<(), Fail> {
+    let script =
+        b"opadd file f\nopparm f file a.obj\nopadd file g\nopparm g file b\nopadd switch w\nopparm w input 3\nopwire w 0 g\nopwire w 3 f\n";
+    let mut files = script_files(rt.alloc(), script, b"v 1 2 3\n")?;
+    files.fail_at(3)?;
+    let ran = run_on(rt.alloc(), &["s", "w"], &mut files, 0)?;
+    assert_eq!(rt; ran.status, 0);
+    assert_eq!(rt; ran.out.as_slice(), b"v 1 2 3\n".as_slice());
     Ok(())
 }
 
 /// The first file is out of form, and the load of the second fails.
 #[test]
 fn files_are_loaded_before_any_is_read(rt: HostRuntime) -> Result<(), Fail> {
-    let script =
-        b"opadd file f\nopparm f file a.obj\nopadd file g\nopparm g file b\nopadd merge m\nopwire m 0 f\nopwire m 1 g\n";
-    let mut files = script_files(rt.alloc(), script, b"x\n")?;
+    let mut files = script_files(rt.alloc(), TWO_FILES, b"x\n")?;
     files.fail_at(3)?;
     let ran = run_on(rt.alloc(), &["s", "m"], &mut files, 0)?;
     assert_eq!(rt; ran.status, 5);
+    assert_eq!(rt; ran.err.as_slice(), b"1\nsopcook: read fault\n".as_slice());
+    assert!(rt; ran.out.is_empty());
     Ok(())
 }
 
