@@ -1,14 +1,14 @@
 -- Why a run answers so: missing files and the counts of misses, and which line says what.
-use Rattle.std.proofs.Common.{◌≡◌, Bool, true, false, cond, ℕ, zero, suc, ◌+◌, ◌<◌, ◌≤◌, List, [], ◌∷◌, ◌++◌, length, ◌⊎◌, inl, inr, refl, sym, ◌∙◌, ap, subst, arith, min, ◌^◌, ◌-◌, append_assoc}
+use Rattle.std.proofs.Common.{◌≡◌, Bool, true, false, cond, ℕ, zero, suc, ◌≤◌, List, [], ◌∷◌, ◌++◌, length, inl, inr, refl, sym, ◌∙◌, ap, arith, append_assoc}
 use Rattle.std.specs.Prelude.{Option, None, Some, Contains}
 use Rattle.std.specs.Cmp.Lexicographic.{slice_cmp, nat_list_cmp_total}
 use Rattle.std.specs.FinMap.{get, insert, get-insert, empty, get-empty}
 use Rattle.std.specs.Ordering.{nat_cmp, eq_by_cmp}
-use Rattle.sop_outside.specs.Causes.{Rose, raised}
+use Rattle.sop_outside.specs.Causes.{Rose}
 use Rattle.sop_cook.specs.declared.loaded.LoadedFile.{LoadedFile}
 use Rattle.sop_cook.specs.declared.loaded.LoadedFile.TheVariants.{Missing}
 use Rattle.sop_cook.specs.Loads.{Loads}
-use Rattle.std.specs.Prelude.{Result, Ok, Err, IfOk, is_some, IsTrue, unwrap_or, codes, if◌then◌else◌}
+use Rattle.std.specs.Prelude.{Result, Ok, Err, is_some, IsTrue, unwrap_or, codes, if◌then◌else◌}
 use Rattle.std.specs.List.{flat_map}
 use Rattle.std.proofs.lemmas.List.Elements.{Contains-append_left, Contains-append_right}
 use Rattle.sop_outside.specs.Told.{appended}
@@ -33,14 +33,12 @@ use Rattle.sop_cook.specs.declared.cook_end.CookEnd.TheVariants as end
 use Rattle.sop_cook.specs.Loads.{FileMap, file_in}
 use Rattle.sop_cook.specs.SerialCook.{Outcome, Failure, failed, then_with, at_node, unrefused, file_geo, merge_geo, gathered, given, merge_outcome, visit_type, visit, cooked, cook_of}
 use Rattle.sop_cook.specs.Keeping.{Tells}
-use Rattle.hscript_text.specs.declared.kind.ScriptKind.{ScriptKind}
 use Rattle.sopcook.specs.declared.answer.Answer.{Answer}
 use Rattle.sopcook.specs.declared.opening.Opening.{Opening}
 use Rattle.sopcook.specs.declared.opening.Opening.TheVariants.{Refused, Cooking}
-use Rattle.sopcook.specs.Request.{request_of}
-use Rattle.sopcook.specs.Answer.{said, words_answer, no_script, script_too_long, line_answer, no_node, name_at, fault_answer}
+use Rattle.sopcook.specs.Answer.{said, name_at}
 use Rattle.sopcook.specs.Delivery.{Told, Delivers, IsRefusal, IsOpening, IsScriptOpening, SaysRefusal, SaysFault, IsEndAnswer, IsNodeAnswer, IsNamedAnswer}
-use Rattle.sopcook.specs.Loads.{Has, HasFilesOf, HasMissing, MissesBy}
+use Rattle.sopcook.specs.Loads.{HasFilesOf, HasMissing, MissesBy}
 use Rattle.sopcook.proofs.LoadsLemmas.{contains_first, contains_flat, walk_loads}
 
 pub rose_later : (a b c : ℕ) → Rose a b → b ≤ c → Rose a c

@@ -1,6 +1,6 @@
 -- The loads of a cook: what is added, what is needed, and that the cook over them is the one over the files that were told.
 use Rattle.std.proofs.Common.{◌≡◌, Bool, true, false, cond, ℕ, zero, suc, ◌≤◌, List, [], ◌∷◌, ◌++◌, length, take, ◌⊎◌, inl, inr, refl, sym, ◌∙◌, ap, subst, arith, append_assoc}
-use Rattle.std.specs.Prelude.{All, Contains, Option, None, Some, IsTrue, IfSome, is_some, bytes_eq, unwrap_or, option_map, ◌==◌}
+use Rattle.std.specs.Prelude.{All, Contains, Option, None, Some, IsTrue, IfSome, is_some, unwrap_or}
 use Rattle.std.specs.List.{list_any, flat_map}
 use Rattle.std.specs.Cmp.Lexicographic.{slice_cmp, nat_list_cmp_total}
 use Rattle.std.specs.FinMap.{get, insert, get-insert, empty, get-empty}
@@ -15,7 +15,7 @@ use Rattle.sop_outside.specs.Load.{Names}
 use Rattle.sop_net.specs.declared.kind.NodeType.{NodeType}
 use Rattle.sop_net.specs.declared.kind.NodeType.TheVariants as type
 use Rattle.sop_net.specs.declared.node.Node.{Node}
-use Rattle.sop_net.specs.Network.{node_of, used_sources, parm_at, IsLive, node_named, number_named}
+use Rattle.sop_net.specs.Network.{node_of, used_sources, parm_at, IsLive}
 use Rattle.sop_net.specs.Needs.{walk, file_of, file_of_node, file_of_type, is_file_named, listed, with_file, first_files, needed}
 use Rattle.sop_cook.specs.declared.loaded.LoadedFile.{LoadedFile}
 use Rattle.sop_cook.specs.declared.loaded.LoadedFile.TheVariants.{Missing}

@@ -1,5 +1,5 @@
 use Rattle.sopcook.proofs.LoadsLemmas.{keeps_added, has_it, told_added}
-use Rattle.std.proofs.Common.{◌≡◌, ◌∙◌, ap}
+use Rattle.std.proofs.Common.{◌∙◌, ap}
 use Rattle.std.specs.Prelude.{Ok}
 use Rattle.sop_outside.specs.Causes.{Rose}
 use Rattle.sopcook.proofs.CauseLemmas.{missing_added}

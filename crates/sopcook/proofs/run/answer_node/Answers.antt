@@ -4,9 +4,8 @@ use Rattle.sop_cook.specs.SerialCook.{cook_of}
 use Rattle.sop_cook.specs.Loads.{file_in}
 use Rattle.sopcook.specs.Answer.{cook_answer}
 use Rattle.sopcook.proofs.LoadsLemmas.{told_answer}
-use Rattle.std.proofs.Common.{refl}
 use Rattle.sop_outside.specs.Causes.{Rose}
-use Rattle.sopcook.proofs.CauseLemmas.{end_answer, geo_answer}
+use Rattle.sopcook.proofs.CauseLemmas.{end_answer}
 use Rattle.sopcook.proofs.run.answer_node.Goals as goal
 
 pub returns-in-Ok-clause-ok : goal.returns-in-Ok-clause-ok
