@@ -1,7 +1,9 @@
+ghost use Rattle.std.specs.Prelude.{◌≡◌, ◌%◌, length, IfOk};
 ghost use Rattle.sop_net.specs.Network.{IsLive};
 
 use super::*;
 use sop_outside::{Text, TextList};
+use std::alloc::{AllocError, Global};
 use std::process::Abort;
 use std::test::Fail;
 
@@ -12,22 +14,30 @@ fn named(rt: &impl Abort, net: &Net, name: &str) -> NodeId
     net.find(name).expect(rt, "a node of this name")
 }
 
-#[test]
-fn a_network_is_built(rt: HostRuntime) -> Result<(), Fail> {
-    let mut net = Net::new(rt.alloc());
+/// A switch `s` that takes its input 1, into which the file node `f` is wired.
+fn sample(alloc: Global) -> Result<Net, Fail> {
+    let mut net = Net::new(alloc);
     net.add("file", "f")?;
     net.add("switch", "s")?;
     net.set_parm("f", "file", "a.obj")?;
-    let (input, one) = (
-        Text::from_str(rt.alloc(), "input")?,
-        Text::from_str(rt.alloc(), "1")?,
-    );
-    let mut pairs = TextList::new(rt.alloc());
-    pairs.add(input)?;
-    pairs.add(one)?;
-    net.set_parms("s", &pairs)?;
+    net.set_parms("s", &pair(alloc, "input", "1")?)?;
     net.wire("s", "01", "f")?;
-    assert!(rt; net.wire("f", "0", "s") == Err(NetEnd::BadInput));
+    Ok(net)
+}
+
+fn pair(alloc: Global, name: &str, value: &str) -> Result<TextList, AllocError>
+    ensures { IfOk result (λ pair. length pair % 2 ≡ 0) }
+{
+    let (name, value) = (Text::from_str(alloc, name)?, Text::from_str(alloc, value)?);
+    let mut pair = TextList::new(alloc);
+    pair.add(name)?;
+    pair.add(value)?;
+    Ok(pair)
+}
+
+#[test]
+fn a_network_is_read(rt: HostRuntime) -> Result<(), Fail> {
+    let net = sample(rt.alloc())?;
     assert_eq!(rt; net.nodes(), 2);
     let (f, s) = (named(&rt, &net, "f"), named(&rt, &net, "s"));
     assert_eq!(rt; net.name(s), "s");
@@ -38,6 +48,12 @@ fn a_network_is_built(rt: HostRuntime) -> Result<(), Fail> {
     let mut files = vec![in rt.alloc(); s; 1024]?;
     assert_eq!(rt; net.needs(s, &mut files), 1);
     assert!(rt; files[0] == f);
+    Ok(())
+}
+
+#[test]
+fn a_node_is_removed(rt: HostRuntime) -> Result<(), Fail> {
+    let mut net = sample(rt.alloc())?;
     net.remove("f")?;
     assert!(rt; net.find("f").is_none());
     Ok(())
