@@ -65,7 +65,7 @@ def write(lines, runs):
         "`bench/growth.py --write` makes this table from the program `sop_bench`. Times are seconds of the processor, the median\n"
         f"of {runs} runs, less that of an empty run, or of one that only makes the points. `tokens-..` cuts a text of so many\n"
         "bytes of one kind, 50 to 2,000 times; `wildcard` matches `*a*a..` of so many bytes with a name of 65, 200,000 times;\n"
-        "`near` finds the points near each of so many; `select-..` selects of so many points, 100 times, by `0-999999:1000`, by\n"
+        "`near` finds the points near each of so many; `select-..` selects of so many points, 500 times, by `0-999999:1000`, by\n"
         "`0-999999:2` and by `*`. The bounds that it checks: twice the size takes at most 2.3 times as long, and 2.5 times for\n"
         "`near`; and each thousandth point takes less time to select than each second one.",
         lines,

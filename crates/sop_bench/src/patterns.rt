@@ -7,7 +7,7 @@ use sop_model::Class;
 use sop_pattern::{Pattern, matches};
 use std::alloc::Global;
 
-const SELECTIONS: u32 = 100;
+const SELECTIONS: u32 = 500;
 
 const MATCHES: u32 = 200_000;
 
@@ -33,7 +33,7 @@ impl Holding {
     }
 }
 
-/// How many of `size` points, at most 1,000,000, a word selects, asked 100 times; none where memory runs out.
+/// How many of `size` points, at most 1,000,000, a word selects, asked 500 times; none where memory runs out.
 pub fn sum_of_selections(alloc: Global, holding: Holding, size: u32) -> Option<u64> {
     let Ok(geo) = points_at(alloc, &places(alloc, size)?) else {
         return None;

@@ -38,7 +38,7 @@ impl Filling {
     fn calls(self) -> u32 {
         match self {
             Filling::Quotes | Filling::Pluses => 50,
-            Filling::Spaces => 200,
+            Filling::Spaces => 1000,
             Filling::Slashes | Filling::Digits | Filling::Letters => 2000,
         }
     }
