@@ -1,13 +1,14 @@
 #!/usr/bin/env python3
-"""Measures how the cost of a cook grows with its input, over closed grids of N points and N quads.
+"""Measures how the cost of a cook grows with its input: closed grids of N points and N quads, and long command files.
 
     run.py [--program FILE] [--most N] [--runs N] [--write]
 
 It measures reading and writing one grid, N up to 1,000,000, and merging two, N up to 500,000 each: a quarter, a half
-and the whole of that. A time is the median of the runs in seconds of the processor, less that of an empty cook; memory
-is the greatest that a run held. It checks the answers byte for byte, that twice the input takes at most 2.3 times as
-long, and that no cook takes more than 3 GB. The status is 0 where all of that holds. --most N makes a smaller and
-quicker measurement. --write puts the table of the whole one into docs/BENCH.md with the date.
+and the whole of that; and command files of up to 1,000 nodes and of up to 4 MiB: a half and the whole. A time is the
+median of the runs in seconds of the processor, less that of an empty cook; memory is the greatest that a run held. It
+checks the answers byte for byte, that twice the input takes at most 2.3 times as long, and that no cook takes more than
+3 GB. The status is 0 where all of that holds. --most N makes a smaller and quicker measurement of the grids.
+--write puts the tables of the whole one into docs/BENCH.md with the date.
 """
 import argparse
 import filecmp
@@ -20,11 +21,14 @@ import sys
 import tempfile
 
 import page
+from commands import COMMAND_FILES, write_chain
 
 MOST = 1_000_000
 MOST_TIMES = 2.3
 MOST_BYTES = 3_000_000_000
 SHORTEST = 0.05  # seconds: a ratio over a shorter time says nothing
+SHORTEST_COMMANDS = 0.002  # a command file is read quickly, so it is read in more runs
+COMMAND_RUNS = 7  # so many times as many
 
 
 def rows_of(count):
@@ -135,8 +139,48 @@ def series(program, name, most, inputs, runs):
     return lines, problems
 
 
+def read_commands(program, make, size, runs):
+    """The median time less that of an empty cook, bytes read, and the statuses other than 0."""
+    with tempfile.TemporaryDirectory() as folder:
+        write_chain(folder, 1)
+        empty = statistics.median([cook(program, folder, "out")[0] for _ in range(runs)])
+        make(folder, size)
+        ran = [cook(program, folder, "out") for _ in range(runs)]
+        length = os.path.getsize(f"{folder}/cook.cmd")
+    statuses = {status for _, _, status in ran} - {0}
+    return statistics.median([took for took, _, _ in ran]) - empty, length, statuses
+
+
+def command_series(program, name, make, size, runs):
+    """A line of the table for a half and the whole of a command file, and what doesn't hold."""
+    lines, problems, before = [], [], None
+    for part in (size // 2, size):
+        took, length, statuses = read_commands(program, make, part, runs * COMMAND_RUNS)
+        times = took / before if before and before >= SHORTEST_COMMANDS else None
+        if statuses:
+            problems.append(f"{name}, {part:,}: status {min(statuses)}")
+        if times and times > MOST_TIMES:
+            problems.append(f"{name}, {part:,}: {times:.2f} times as long as half of it")
+        cells = [name, f"{part:,}", f"{length / 1e6:.2f} MB", f"{took:.4f} s", f"{times:.2f}" if times else ""]
+        lines.append(page.line(cells))
+        print(lines[-1], flush=True)
+        before = took
+    return lines, problems
+
+
+def write_commands(lines, runs):
+    """Puts the table of the command files into docs/BENCH.md."""
+    page.put(
+        "How command files cost",
+        "`bench/run.py --write` makes this table. A file of nodes has so many merges in a row, each with one input or 32 wired to\n"
+        "the one before; a file of comments and sets has so many bytes. Times are seconds of the processor, the median of\n"
+        f"{runs * COMMAND_RUNS} runs, less that of an empty cook. The bound that it checks: twice the input takes at most 2.3 times as long.",
+        lines,
+    )
+
+
 def write(lines, runs):
-    """Puts the table into docs/BENCH.md."""
+    """Puts the table of the grids into docs/BENCH.md."""
     page.put(
         "How cost grows",
         "`bench/run.py --write` makes this table. A grid of N points has N quads and is closed: each row and each column is a\n"
@@ -162,11 +206,18 @@ def main():
     alone = series(program, "read and write one", args.most, 1, args.runs)
     both = series(program, "merge two", args.most // 2, 2, args.runs)
     lines += alone[0] + both[0]
+    command_lines = page.table(["command file", "size", "read", "time", "times half of it"], "<>>>>")
+    print("\n".join(command_lines))
     problems = alone[1] + both[1]
+    for name, make, size in COMMAND_FILES:
+        more = command_series(program, name, make, size, args.runs)
+        command_lines += more[0]
+        problems += more[1]
     for it in problems:
         print(f"FAILED {it}")
     if args.write:
         write(lines, args.runs)
+        write_commands(command_lines, args.runs)
     return 1 if problems else 0
 
 

@@ -1,52 +1,36 @@
 //! Runs one row of a measurement: the words ROW SIZE print a checksum of what it computed.
 //!
-//! The rows `mul`, `div`, `rem`, `sqrt` and `length` do SIZE operations on numbers; `gather` runs a thousand equal jobs
-//! by SIZE workers, at least 1 and at most 64; `none` does nothing, for the time of an empty run. It reads no clock: it is
-//! timed from outside. The status is 2 where the words have another form, and 1 where there is no result.
+//! - `none` does nothing, for the time of an empty run.
+//! - `mul`, `div`, `rem`, `sqrt` and `length` do SIZE operations on numbers.
+//! - `gather` runs a thousand equal jobs by SIZE workers, at least 1 and at most 64.
+//! - `tokens-quotes`, `tokens-slashes`, `tokens-digits`, `tokens-pluses`, `tokens-letters` and `tokens-spaces` cut a text
+//!   of SIZE such bytes into tokens, again and again.
+//! - `pages-set` sets SIZE cells of pages that one place holds, 20 times each; `pages-copy` writes SIZE times into a page
+//!   that two places hold.
+//! - `points` makes a geometry of SIZE points, and the rows behind it make the same one.
+//! - `select-thousandth`, `select-second` and `select-all` select points by a pattern, again and again; `wildcard` matches
+//!   a pattern of SIZE bytes with a name, again and again.
+//! - `near` finds the points near each of the points, and `near-scan` does so by a look at all of them.
+//!
+//! It reads no clock: it is timed from outside. The status is 2 where the words have another form, and 1 where there is no
+//! result.
 #![tactic(auto)]
 
+mod checksum;
+mod geometry;
 mod jobs;
+mod neighbors;
 mod numbers;
 mod operations;
+mod pages;
+mod patterns;
+mod row;
+mod tokens;
 
-use jobs::sum_of_jobs;
-use operations::{Operation, checksum};
-use std::alloc::Global;
+use row::Row;
 use std::process::ExitCode;
 use std::rt::Env;
-use std::thread::Threads;
 use std::{env, io};
-
-#[derive(Clone, Copy)]
-enum Row {
-    Nothing,
-    Numbers(Operation),
-    Gather,
-}
-
-impl Row {
-    fn named(name: &str) -> Option<Row> {
-        Some(match name {
-            "none" => Row::Nothing,
-            "mul" => Row::Numbers(Operation::Mul),
-            "div" => Row::Numbers(Operation::Div),
-            "rem" => Row::Numbers(Operation::Rem),
-            "sqrt" => Row::Numbers(Operation::Sqrt),
-            "length" => Row::Numbers(Operation::Length),
-            "gather" => Row::Gather,
-            _ => return None,
-        })
-    }
-
-    /// The checksum of a run, or none where memory or a number's range doesn't suffice.
-    fn run<R: Threads + Sync>(self, rt: &R, alloc: Global, size: u32) -> Option<u64> {
-        match self {
-            Row::Nothing => Some(0),
-            Row::Numbers(operation) => checksum(operation, size).ok(),
-            Row::Gather => sum_of_jobs(rt, alloc, size),
-        }
-    }
-}
 
 /// The row and the size that the words ask for, or none where they have another form.
 fn request<E: Env + Alloc>(rt: &E) -> io::Result<Option<(Row, u32)>> {

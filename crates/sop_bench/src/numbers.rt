@@ -1,5 +1,7 @@
-// Numbers for the operations.
-use sop_fixed::{NumFault, Real};
+// Random numbers and places.
+ghost use Rattle.std.specs.Prelude.{◌<◌};
+
+use sop_fixed::{NumFault, Real, Vec3};
 
 const FACTOR: u64 = 6_364_136_223_846_793_005;
 
@@ -31,5 +33,22 @@ impl Numbers {
     /// A number from 1 to 1,073,741,824 millionths.
     pub fn positive(&mut self) -> Result<Real, NumFault> {
         Real::of_millionths(i64::from(self.bits()) + 1)
+    }
+
+    /// A number from 0 to before so many millionths.
+    fn below(&mut self, end: u64) -> Result<Real, NumFault>
+        requires { 0 < end }
+    {
+        Real::of_millionths((u64::from(self.bits()) % end) as i64)
+    }
+
+    /// A place in a box of 0.01 times `size` by 1 by 1.
+    pub fn place(&mut self, size: u32) -> Result<Vec3, NumFault> {
+        let width = u64::from(size.max(1)) * 10_000;
+        Ok(Vec3 {
+            x: self.below(width)?,
+            y: self.below(1_000_000)?,
+            z: self.below(1_000_000)?,
+        })
     }
 }

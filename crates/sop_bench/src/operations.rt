@@ -1,4 +1,5 @@
 // Runs of one operation on numbers.
+use crate::checksum::added;
 use crate::numbers::Numbers;
 use sop_fixed::{NumFault, Real, Vec3};
 
@@ -32,12 +33,10 @@ impl Operation {
 /// A checksum of `size` results, which depends on their order.
 pub fn checksum(operation: Operation, size: u32) -> Result<u64, NumFault> {
     let mut numbers = Numbers::new();
-    let mut sum = 0u64;
+    let mut sum = 0;
     for _ in 0..size {
         let result = operation.apply(&mut numbers)?;
-        sum = sum
-            .wrapping_mul(31)
-            .wrapping_add(result.millionths().cast_unsigned());
+        sum = added(sum, result.millionths().cast_unsigned());
     }
     Ok(sum)
 }

@@ -1,0 +1,93 @@
+#!/usr/bin/env python3
+"""Measures how the cost of the libraries grows with what they are given, from outside.
+
+    growth.py [PROGRAM] [--runs N] [--write]
+
+PROGRAM is the built crate sop_bench; it has no peer here, since a time is compared with the same row's at half the size.
+A time is the median of the runs in seconds of the processor, less that of an empty run, or of one that only makes the
+points. It checks that twice the size takes at most 2.3 times as long, and 2.5 times for near points, whose cells are
+sorted; and that a pattern that selects few points takes less time than one that selects half of them. The status is 0
+where all of that holds. --write puts the table into docs/BENCH.md with the date.
+"""
+import argparse
+import os
+import sys
+
+import page
+from timing import PROGRAM, measure, ratio, shown, tell
+
+MOST_TIMES = 2.3
+MOST_TIMES_NEAR = 2.5
+KINDS = ("quotes", "slashes", "digits", "pluses", "letters", "spaces")
+DOUBLED = [(f"tokens-{kind}", 65_536, MOST_TIMES) for kind in KINDS] + [
+    ("wildcard", 1000, MOST_TIMES),
+    ("near", 20_000, MOST_TIMES_NEAR),
+    ("near", 100_000, MOST_TIMES_NEAR),
+]
+POINTS = 1_000_000
+SELECTIONS = ("select-thousandth", "select-second", "select-all")
+
+
+def time_of(program, row, size, runs):
+    """Seconds of a row, less those that make its points."""
+    less = ("points", size) if row in ("near", *SELECTIONS) else ("none", 0)
+    [(took, _)] = measure([program], row, size, runs, less=less)
+    return took
+
+
+def doubled(program, runs, lines):
+    """Two lines for each row, half its size and its size, and what doesn't hold."""
+    problems = []
+    for row, size, most in DOUBLED:
+        before = time_of(program, row, size // 2, runs)
+        tell(lines, row, f"{size // 2:,}", f"{before:.3f} s", "")
+        took = time_of(program, row, size, runs)
+        times = ratio(took, before)
+        tell(lines, row, f"{size:,}", f"{took:.3f} s", shown(times))
+        if times is not None and times > most:
+            problems.append(f"{row}, {size:,}: {times:.2f} times as long as half of it")
+    return problems
+
+
+def selections(program, runs, lines):
+    """A line for each pattern, and what doesn't hold."""
+    took = [time_of(program, row, POINTS, runs) for row in SELECTIONS]
+    for row, seconds in zip(SELECTIONS, took):
+        tell(lines, row, f"{POINTS:,}", f"{seconds:.3f} s", "")
+    few, half, _ = took
+    return [] if few < half else [f"{SELECTIONS[0]} takes as long as {SELECTIONS[1]}"]
+
+
+def write(lines, runs):
+    """Puts the table into docs/BENCH.md."""
+    page.put(
+        "How the libraries' cost grows",
+        "`bench/growth.py --write` makes this table from the program `sop_bench`. Times are seconds of the processor, the median\n"
+        f"of {runs} runs, less that of an empty run, or of one that only makes the points. `tokens-..` cuts a text of so many\n"
+        "bytes of one kind, 50 to 2,000 times; `wildcard` matches `*a*a..` of so many bytes with a name of 65, 200,000 times;\n"
+        "`near` finds the points near each of so many; `select-..` selects of so many points, 500 times, by `0-999999:1000`, by\n"
+        "`0-999999:2` and by `*`. The bounds that it checks: twice the size takes at most 2.3 times as long, and 2.5 times for\n"
+        "`near`; and each thousandth point takes less time to select than each second one.",
+        lines,
+    )
+
+
+def main():
+    parser = argparse.ArgumentParser()
+    parser.add_argument("program", nargs="?", default=PROGRAM)
+    parser.add_argument("--runs", type=int, default=5)
+    parser.add_argument("--write", action="store_true")
+    args = parser.parse_args()
+    program = os.path.abspath(args.program)
+    lines = page.table(["row", "size", "time", "times half of it"], "<>>>")
+    print("\n".join(lines))
+    problems = doubled(program, args.runs, lines) + selections(program, args.runs, lines)
+    for it in problems:
+        print(f"FAILED {it}")
+    if args.write:
+        write(lines, args.runs)
+    return 1 if problems else 0
+
+
+if __name__ == "__main__":
+    sys.exit(main())

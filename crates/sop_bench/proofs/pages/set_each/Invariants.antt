@@ -1,0 +1,6 @@
+use Rattle.std.proofs.Common.{◌≡◌, length}
+use Rattle.sop_pages.specs.Pages.{IsLive, cells}
+use Rattle.sop_bench.proofs.pages.set_each.Given as goal
+
+abbrev pub invariant-loop-i : goal.invariant-loop-i
+invariant-loop-i l = IsLive l.store l.id × (length (cells l.store l.id) ≡ 1024)

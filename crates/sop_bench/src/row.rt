@@ -1,0 +1,76 @@
+// The rows by their names.
+use crate::geometry::sum_of_points;
+use crate::jobs::sum_of_jobs;
+use crate::neighbors::{Search, sum_of_neighbors};
+use crate::operations::{Operation, checksum};
+use crate::pages::{sum_of_copies, sum_of_sets};
+use crate::patterns::{Holding, sum_of_matches, sum_of_selections};
+use crate::tokens::{Filling, sum_of_tokens};
+use std::alloc::Global;
+use std::thread::Threads;
+
+#[derive(Clone, Copy)]
+pub enum Row {
+    Nothing,
+    Numbers(Operation),
+    Gather,
+    Tokens(Filling),
+    SetCells,
+    CopyPages,
+    MakePoints,
+    Select(Holding),
+    Match,
+    FindNeighbors(Search),
+}
+
+const ROWS: [(&str, Row); 22] = [
+    ("none", Row::Nothing),
+    ("mul", Row::Numbers(Operation::Mul)),
+    ("div", Row::Numbers(Operation::Div)),
+    ("rem", Row::Numbers(Operation::Rem)),
+    ("sqrt", Row::Numbers(Operation::Sqrt)),
+    ("length", Row::Numbers(Operation::Length)),
+    ("gather", Row::Gather),
+    ("tokens-quotes", Row::Tokens(Filling::Quotes)),
+    ("tokens-slashes", Row::Tokens(Filling::Slashes)),
+    ("tokens-digits", Row::Tokens(Filling::Digits)),
+    ("tokens-pluses", Row::Tokens(Filling::Pluses)),
+    ("tokens-letters", Row::Tokens(Filling::Letters)),
+    ("tokens-spaces", Row::Tokens(Filling::Spaces)),
+    ("pages-set", Row::SetCells),
+    ("pages-copy", Row::CopyPages),
+    ("points", Row::MakePoints),
+    ("select-thousandth", Row::Select(Holding::EachThousandth)),
+    ("select-second", Row::Select(Holding::EachSecond)),
+    ("select-all", Row::Select(Holding::All)),
+    ("wildcard", Row::Match),
+    ("near", Row::FindNeighbors(Search::Cells)),
+    ("near-scan", Row::FindNeighbors(Search::Scan)),
+];
+
+impl Row {
+    pub fn named(name: &str) -> Option<Row> {
+        for (known, row) in &ROWS {
+            if *known == name {
+                return Some(*row);
+            }
+        }
+        None
+    }
+
+    /// The checksum of a run, or none where memory or a number's range doesn't suffice.
+    pub fn run<R: Threads + Sync>(self, rt: &R, alloc: Global, size: u32) -> Option<u64> {
+        match self {
+            Row::Nothing => Some(0),
+            Row::Numbers(operation) => checksum(operation, size).ok(),
+            Row::Gather => sum_of_jobs(rt, alloc, size),
+            Row::Tokens(filling) => sum_of_tokens(alloc, filling, size),
+            Row::SetCells => sum_of_sets(alloc, size),
+            Row::CopyPages => sum_of_copies(alloc, size),
+            Row::MakePoints => sum_of_points(alloc, size),
+            Row::Select(holding) => sum_of_selections(alloc, holding, size),
+            Row::Match => sum_of_matches(alloc, size),
+            Row::FindNeighbors(search) => sum_of_neighbors(alloc, search, size),
+        }
+    }
+}
