@@ -9,12 +9,11 @@ points. It checks that twice the size takes at most 2.3 times as long, and 2.5 t
 sorted; and that a pattern that selects few points takes less time than one that selects half of them. The status is 0
 where all of that holds. --write puts the table into docs/BENCH.md with the date.
 """
-import argparse
 import os
 import sys
 
 import page
-from timing import PROGRAM, measure, ratio, shown, tell
+from timing import arguments, measure, ratio, shown, status_of, tell
 
 MOST_TIMES = 2.3
 MOST_TIMES_NEAR = 2.5
@@ -73,20 +72,14 @@ def write(lines, runs):
 
 
 def main():
-    parser = argparse.ArgumentParser()
-    parser.add_argument("program", nargs="?", default=PROGRAM)
-    parser.add_argument("--runs", type=int, default=5)
-    parser.add_argument("--write", action="store_true")
-    args = parser.parse_args()
+    args = arguments().parse_args()
     program = os.path.abspath(args.program)
     lines = page.table(["row", "size", "time", "times half of it"], "<>>>")
     print("\n".join(lines))
     problems = doubled(program, args.runs, lines) + selections(program, args.runs, lines)
-    for it in problems:
-        print(f"FAILED {it}")
     if args.write:
         write(lines, args.runs)
-    return 1 if problems else 0
+    return status_of(problems)
 
 
 if __name__ == "__main__":

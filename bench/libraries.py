@@ -11,12 +11,11 @@ to do; rows for more workers than processors are not measured. The status is 0 w
 N operations, and makes the other rows smaller as much. --write puts the table of the whole measurement into
 docs/BENCH.md with the date.
 """
-import argparse
 import os
 import sys
 
 import page
-from timing import PROGRAM, WALL, build_peer, measure, ratio, shown, tell
+from timing import WALL, arguments, build_peer, measure, ratio, shown, status_of, tell
 
 OPERATIONS = ("mul", "div", "rem", "sqrt", "length")
 SIZE = 10_000_000
@@ -88,11 +87,8 @@ def write(lines, runs):
 
 
 def main():
-    parser = argparse.ArgumentParser()
-    parser.add_argument("program", nargs="?", default=PROGRAM)
+    parser = arguments()
     parser.add_argument("--size", type=int, default=SIZE)
-    parser.add_argument("--runs", type=int, default=5)
-    parser.add_argument("--write", action="store_true")
     args = parser.parse_args()
     if args.write and args.size != SIZE:
         parser.error("docs/BENCH.md holds the whole measurement: leave out --size")
@@ -102,11 +98,9 @@ def main():
     print("\n".join(lines))
     problems = operations(programs, sizes, args.runs, lines)
     problems += neighbors(programs, sizes, args.runs, lines) + workers(programs, args.runs, lines)
-    for it in problems:
-        print(f"FAILED {it}")
     if args.write:
         write(lines, args.runs)
-    return 1 if problems else 0
+    return status_of(problems)
 
 
 if __name__ == "__main__":

@@ -1,4 +1,5 @@
 """What the measurements of the libraries share: the programs, their runs and their times."""
+import argparse
 import os
 import statistics
 import subprocess
@@ -11,6 +12,22 @@ import page
 PROGRAM = f"{page.TOP}/crates/sop_bench/out/sop_bench"
 SHORTEST = 0.01  # seconds: a ratio over a shorter time says nothing
 PROCESSOR, WALL = 0, 1
+
+
+def arguments():
+    """A parser of the words that the measurements share."""
+    parser = argparse.ArgumentParser()
+    parser.add_argument("program", nargs="?", default=PROGRAM)
+    parser.add_argument("--runs", type=int, default=5)
+    parser.add_argument("--write", action="store_true")
+    return parser
+
+
+def status_of(problems):
+    """Prints what doesn't hold, and gives the status."""
+    for it in problems:
+        print(f"FAILED {it}")
+    return 1 if problems else 0
 
 
 def build_peer():
