@@ -18,7 +18,7 @@ same-read xs i x y within a b =
     cc
 
 -- numbers stay at their places
-number-set : (nodes : List Node) (at i : ℕ) (m old d : Node) → m.number ≡ (get_or nodes at old).number → (get_or (set nodes at m) i d).number ≡ (get_or nodes i d).number
+pub number-set : (nodes : List Node) (at i : ℕ) (m old d : Node) → m.number ≡ (get_or nodes at old).number → (get_or (set nodes at m) i d).number ≡ (get_or nodes i d).number
 number-set [] at i m old d e = refl
 number-set (n ∷ nodes) zero zero m old d e = e
 number-set (n ∷ nodes) zero (suc i) m old d e = refl

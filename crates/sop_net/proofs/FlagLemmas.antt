@@ -8,7 +8,7 @@ use Rattle.std.proofs.lemmas.List.Quantifiers.{position-Some}
 use Rattle.sop_net.specs.declared.node.Node.{Node}
 use Rattle.sop_net.specs.Graph.{searched}
 use Rattle.sop_net.specs.Network.{place_of, IsLive, wired, wires_of, sources}
-use Rattle.sop_net.specs.Order.{In, IsOrdered, IsOrder, flag_at, flag_of}
+use Rattle.sop_net.specs.Order.{In, IsOrdered, IsOrder, mark_at, flag_of}
 use Rattle.sop_net.proofs.Membership.{in-split, any-same}
 use Rattle.sop_net.proofs.GraphLemmas.{searched-step}
 use Rattle.sop_net.proofs.OrderLemmas.{order-within}
@@ -50,16 +50,16 @@ other-place (n ∷ nodes) x y i j a b d e =
     let same : (get_or (n ∷ nodes) j n).number ≡ (get_or (n ∷ nodes) i n).number = ap (λ k. (get_or (n ∷ nodes) k n).number) e in
     d (sym there ∙ same ∙ here)
 
-module _ (nodes : List Node) (flags : List Bool) (x i : ℕ) (value : Bool) (place : place_of nodes x ≡ Some i) (within : i < length flags) where
-  flag-set_same : flag_of nodes (set flags i value) x ≡ value
-  flag-set_same = ap (flag_at (set flags i value)) place ∙ get_or-set_same flags i value false within
+module _ {A : Type 0} (none : A) (nodes : List Node) (marks : List A) (x i : ℕ) (mark : A) (place : place_of nodes x ≡ Some i) where
+  pub mark-set_same : i < length marks → mark_at none (set marks i mark) (place_of nodes x) ≡ mark
+  mark-set_same within = ap (mark_at none (set marks i mark)) place ∙ get_or-set_same marks i mark none within
 
-  flag-set_other : (y : ℕ) → (y ≡ x → ⊥) → IsLive nodes y → flag_of nodes (set flags i value) y ≡ flag_of nodes flags y
-  flag-set_other y d live =
+  pub mark-set_other : (y : ℕ) → (y ≡ x → ⊥) → IsLive nodes y → mark_at none (set marks i mark) (place_of nodes y) ≡ mark_at none marks (place_of nodes y)
+  mark-set_other y d live =
       let s = stands-at nodes y live in
       let j = position_or_len (λ (n : Node). n.number == y) nodes in
       let apart : j ≡ i → ⊥ = other-place nodes x y i j place s.place d in
-      ap (flag_at (set flags i value)) s.place ∙ get_or-set_other flags i j value false apart ∙ ap (flag_at flags) (sym s.place)
+      ap (mark_at none (set marks i mark)) s.place ∙ get_or-set_other marks i j mark none apart ∙ ap (mark_at none marks) (sym s.place)
 
 -- one node more along the order
 pub flags-more : (nodes : List Node) (order : List ℕ) (flags : List Bool) (node i at x : ℕ) (value : Bool)
@@ -75,13 +75,13 @@ flags-more nodes order flags node i at x value o h is place within before found 
     any-same (flag_of nodes flags) p (f x)
     (λ m j. elim (ordered-at f [] order i m o.ordered h (subst (λ v. In (f v) m) is j)) [ inl none ↦ absurd none | inr b ↦ before m b ]) in
     let here : flag_of nodes (set flags at value) x ≡ p x =
-    flag-set_same nodes flags x at value place within ∙ found ∙ ap (λ b. (x == node) || b) known ∙ sym (searched-step f (length nodes) x node (order-within nodes order o x live)) in
+    mark-set_same false nodes flags x at value place within ∙ found ∙ ap (λ b. (x == node) || b) known ∙ sym (searched-step f (length nodes) x node (order-within nodes order o x live)) in
     let split : In (take i order ++ get_or order i 0 ∷ []) y = subst (λ l. In l y) (take_more order i 0 h) there in
     (elim (y == x) as (λ b. (y == x) ≡ b → flag_of nodes (set flags at value) y ≡ p y) [
       | true ↦ λ e. (let same : y ≡ x = eqb-true y x e in subst (λ v. flag_of nodes (set flags at value) v ≡ p v) (sym same) here)
       | false ↦ λ e. (let apart : y ≡ x → ⊥ = eqb-false y x e in
           elim (in-split (take i order) (get_or order i 0 ∷ []) y split) [
-            | inl old ↦ flag-set_other nodes flags x at value place within y apart (o.live y (taken-in order i y old)) ∙ before y old
+            | inl old ↦ mark-set_other false nodes flags x at value place y apart (o.live y (taken-in order i y old)) ∙ before y old
             | inr new ↦ elim new [ inl q ↦ absurd (apart (sym q ∙ sym is)) | inr none ↦ absurd none ]
           ])
     ]) refl

@@ -1,5 +1,7 @@
 pub mod WholeLemmas
 pub mod PlaceLemmas
+pub mod RankLemmas
+pub mod KeptLemmas
 pub mod NameLemmas
 pub mod Membership
 pub mod GraphLemmas

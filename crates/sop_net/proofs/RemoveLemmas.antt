@@ -41,7 +41,7 @@ distinct-remove (t ∷ names) (suc i) h =
     let none : list_any (bytes_eq t) (remove names i) ≡ false = any-remove (bytes_eq t) names i (not-true (list_any (bytes_eq t) names) parts.0) in
     ap (λ b. not b && are_distinct (remove names i)) none ∙ distinct-remove names i parts.1
 
-All-remove : {A : Type 0} (P : A → Type 0) (xs : List A) (i : ℕ) → All P xs → All P (remove xs i)
+pub All-remove : {A : Type 0} (P : A → Type 0) (xs : List A) (i : ℕ) → All P xs → All P (remove xs i)
 All-remove P xs i all = All-append P (take i xs) (drop (suc i) xs) (All-take P i xs all) (All-drop P (suc i) xs all)
 
 -- nodes without a wire from `v`
@@ -88,7 +88,7 @@ stay (n ∷ nodes) zero y d h e = ap (λ b. cond b (Some n) (node_of nodes y)) (
 stay (n ∷ nodes) (suc at) y d h e =
     elim (n.number == y) as (λ b. cond b (Some n) (node_of (remove nodes at) y) ≡ cond b (Some n) (node_of nodes y)) [ true ↦ refl | false ↦ stay nodes at y d (omega arith) e ]
 
-number-map : (v : ℕ) (nodes : List Node) (i : ℕ) (d : Node) → (get_or (map (unwired v) nodes) i d).number ≡ (get_or nodes i d).number
+pub number-map : (v : ℕ) (nodes : List Node) (i : ℕ) (d : Node) → (get_or (map (unwired v) nodes) i d).number ≡ (get_or nodes i d).number
 number-map v [] i d = refl
 number-map v (n ∷ nodes) zero d = refl
 number-map v (n ∷ nodes) (suc i) d = number-map v nodes i d

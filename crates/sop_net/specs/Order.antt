@@ -1,6 +1,5 @@
 -- An order of the nodes in which each stands behind all that it takes from, which the network keeps.
-use Rattle.std.specs.Prelude.{◌≡◌, ℕ, ◌≤◌, ◌⊎◌, ◌==◌, ⊤, Bool, true, false, if◌then◌else◌, List, [], ◌∷◌, length, map, Option, None, Some, Vec, slice_index_or}
-use Rattle.std.specs.declared.alloc.Global.{Global}
+use Rattle.std.specs.Prelude.{◌≡◌, ℕ, ◌<◌, ◌≤◌, ◌⊎◌, ◌==◌, IsTrue, ⊤, Bool, true, false, if◌then◌else◌, List, [], ◌∷◌, length, map, All, Option, None, Some, slice_index_or}
 use Rattle.sop_net.specs.declared.node.Node.{Node}
 use Rattle.sop_net.specs.Network.{place_of, sources, IsLive, IsNetwork}
 
@@ -36,15 +35,23 @@ abbrev pub comes_first : ℕ → ℕ → List ℕ → Bool
 comes_first source node [] = false
 comes_first source node (x ∷ order) = if x == node then false else if x == source then true else comes_first source node order
 
--- the order that takes the place of another, where there is one
-abbrev pub order_after : Option (Vec ℕ Global) → List ℕ → List ℕ
-order_after None order = order
-order_after (Some new) order = new.items
-
--- a flag of each node, by its place
-abbrev pub flag_at : List Bool → Option ℕ → Bool
-flag_at flags None = false
-flag_at flags (Some i) = slice_index_or flags i false
+-- what nodes are marked with, by their places
+abbrev pub mark_at : {A : Type 0} → A → List A → Option ℕ → A
+mark_at none marks None = none
+mark_at none marks (Some i) = slice_index_or marks i none
 
 abbrev pub flag_of : List Node → List Bool → ℕ → Bool
-flag_of nodes flags x = flag_at flags (place_of nodes x)
+flag_of nodes flags x = mark_at false flags (place_of nodes x)
+
+abbrev pub rank_of : List Node → List ℕ → ℕ → ℕ
+rank_of nodes ranks x = mark_at 0 ranks (place_of nodes x)
+
+-- a rank of each node, by its place: of two nodes the one of lesser rank comes first in the order
+pub record IsRanking (nodes : List Node) (order ranks : List ℕ) : Type 0 where
+  pub each : length ranks ≡ length nodes
+  pub first : (x y : ℕ) → In order x → In order y → rank_of nodes ranks x < rank_of nodes ranks y → IsTrue (comes_first x y order)
+
+-- such ranks, so that the number of the node that is added next ranks behind them
+pub record IsRanked (nodes : List Node) (order ranks : List ℕ) (added : ℕ) : Type 0 where
+  pub ranking : IsRanking nodes order ranks
+  pub below : All (λ rank. rank < added) ranks

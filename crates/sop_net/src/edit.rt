@@ -38,10 +38,8 @@ pub fn staged(alloc: Global, kind: NodeType, name: &str, value: &str) -> Result<
     if !parm.kind.takes(value) {
         return Err(NetEnd::BadValue);
     }
-    match Text::from_str(alloc, value) {
-        Ok(text) => Ok(Edit { at, text }),
-        Err(AllocError) => Err(NetEnd::Memory),
-    }
+    let text = Text::from_str(alloc, value)?;
+    Ok(Edit { at, text })
 }
 
 /// Texts for parameters of a type, each parameter followed by its text, judged in turn.
@@ -54,10 +52,7 @@ pub fn staged_pairs(alloc: Global, kind: NodeType, pairs: &[Text]) -> Result<Vec
     let mut edits = Vec::new(alloc);
     let mut left = pairs;
     while let [name, value, rest @ ..] = left {
-        let edit = match staged(alloc, kind, name.as_str(), value.as_str()) {
-            Ok(edit) => edit,
-            Err(end) => return Err(end),
-        };
+        let edit = staged(alloc, kind, name.as_str(), value.as_str())?;
         if edits.push(edit).is_err() {
             return Err(NetEnd::Memory);
         }

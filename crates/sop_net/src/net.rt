@@ -13,7 +13,7 @@ use crate::name::is_name;
 use crate::needs::needs_of;
 use crate::net_end::NetEnd;
 use crate::node::{Node, NodeId, Parms};
-use crate::order::{put_order, reordered, take_out};
+use crate::order::{Order, push_reserved};
 use crate::place::place;
 use indexmap::IndexSet;
 use sop_outside::TextList;
@@ -29,21 +29,20 @@ pub struct Net {
     nodes: Vec<Node>,
     /// The nodes' names, at their places.
     names: IndexSet<String>,
-    /// The nodes, each behind all that it takes from.
-    order: Vec<NodeId>,
+    order: Order,
     added: u64,
 }
 
 impl Model for Net {
     ghost use Rattle.std.specs.Prelude.{map, string_bytes};
     ghost use Rattle.sop_net.specs.Network.{Network};
-    ghost use Rattle.sop_net.specs.Order.{IsKept};
+    ghost use Rattle.sop_net.specs.Order.{IsKept, IsRanked};
 
     ghost Value = { Network };
 
     ghost view = { λ net. record { nodes = net.nodes.items; added = net.added } };
 
-    ghost invariant = { λ net. IsKept net.nodes.items (map string_bytes net.names.keys) net.order.items net.added };
+    ghost invariant = { λ net. IsKept net.nodes.items (map string_bytes net.names.keys) net.order.nodes.items net.added × IsRanked net.nodes.items net.order.nodes.items net.order.ranks.items net.added };
 }
 
 impl Net {
@@ -55,7 +54,7 @@ impl Net {
             alloc,
             nodes: Vec::new(alloc),
             names: IndexSet::new(alloc),
-            order: Vec::new(alloc),
+            order: Order::new(alloc),
             added: 0,
         }
     }
@@ -80,10 +79,7 @@ impl Net {
         if self.nodes.len() >= 1024 || self.added == u64::MAX {
             return Err(NetEnd::Limit);
         }
-        match self.push_node(kind, name) {
-            Ok(id) => Ok(id),
-            Err(AllocError) => Err(NetEnd::Memory),
-        }
+        Ok(self.push_node(kind, name)?)
     }
 
     /// Adds a node of a new name, where there is room for it.
@@ -99,10 +95,10 @@ impl Net {
         let node = Node::new(self.alloc, id, kind, name)?;
         let key = String::from_str(self.alloc, name)?;
         self.nodes.reserve(1)?;
-        self.order.reserve(1)?;
+        self.order.reserve_one()?;
         self.names.insert(key)?;
         push_reserved(&mut self.nodes, node);
-        push_reserved(&mut self.order, id);
+        self.order.push_reserved(id);
         self.added += 1;
         Ok(id)
     }
@@ -118,10 +114,7 @@ impl Net {
         let Some(at) = self.place_named(node) else {
             return Err(NetEnd::NoNode);
         };
-        let edit = match staged(self.alloc, self.nodes[at].kind, parm, value) {
-            Ok(edit) => edit,
-            Err(end) => return Err(end),
-        };
+        let edit = staged(self.alloc, self.nodes[at].kind, parm, value)?;
         let node = &mut self.nodes[at];
         node.parms.set(edit.at, edit.text);
         Ok(())
@@ -140,10 +133,7 @@ impl Net {
         let Some(at) = self.place_named(node) else {
             return Err(NetEnd::NoNode);
         };
-        let edits = match staged_pairs(self.alloc, self.nodes[at].kind, pairs.as_slice()) {
-            Ok(edits) => edits,
-            Err(end) => return Err(end),
-        };
+        let edits = staged_pairs(self.alloc, self.nodes[at].kind, pairs.as_slice())?;
         let node = &mut self.nodes[at];
         node.parms.edit(edits);
         Ok(())
@@ -168,11 +158,7 @@ impl Net {
             return Err(NetEnd::BadInput);
         };
         let (target, source) = (target.number, self.nodes[source_at].number);
-        let order = match reordered(self.alloc, &self.nodes, &self.order, target, source) {
-            Ok(order) => order,
-            Err(end) => return Err(end),
-        };
-        put_order(&mut self.order, order);
+        self.order.admit(self.alloc, &self.nodes, target, source)?;
         let node = &mut self.nodes[at];
         node.wires.set(input, source);
         Ok(())
@@ -190,7 +176,7 @@ impl Net {
         };
         let removed = self.nodes.remove(at);
         let _name = self.names.shift_remove_index(at);
-        take_out(&mut self.order, removed.number);
+        self.order.remove(removed.number, at);
         unwire(&mut self.nodes, removed.number);
         Ok(())
     }
@@ -329,17 +315,6 @@ impl Net {
         ensures { (x y : ℕ) → IsLive self.now.nodes x → (searched (length self.now.nodes) (sources self.now.nodes) x y ≡ true) ↔ Reaches (sources self.now.nodes) x y }
     {
         let _ = &self.order;
-    }
-}
-
-/// Appends an item for which room was reserved.
-fn push_reserved<T: Drop>(items: &mut Vec<T>, item: T)
-    requires { vec_len items.old < vec_capacity items.old }
-    ensures { items.new.items ≡ items.old.items ++ item ∷ [] }
-{
-    match items.push(item) {
-        Ok(()) => {}
-        Err(_) => unreachable!(),
     }
 }
 

@@ -1,78 +1,154 @@
 // The order of the nodes in which each stands behind all that it takes from.
-ghost use Rattle.std.specs.Prelude.{◌≡◌, ◌<◌, ◌++◌, ◌⊎◌, ◌==◌, ◌||◌, ℕ, AllPairs, Contains, IfOk, IfErr, OnOk, length, filter, not, true, false};
-ghost use Rattle.std.specs.List.{list_any};
+ghost use Rattle.std.specs.Prelude.{◌≡◌, ◌<◌, ◌++◌, ◌∷◌, [], ◌⊎◌, ◌==◌, ◌||◌, ℕ, All, AllPairs, Contains, IfOk, IfErr, OnOk, OnErr, length, filter, remove, not, true, false, vec_len, vec_capacity};
+ghost use Rattle.std.specs.List.{list_any, position_or_len};
 ghost use Rattle.sop_net.specs.Graph.{searched};
 ghost use Rattle.sop_net.specs.Network.{IsLive, sources, wired};
-ghost use Rattle.sop_net.specs.Order.{IsOrder, with_source, comes_first, order_after, flag_of};
+ghost use Rattle.sop_net.specs.Order.{In, IsOrder, IsRanking, with_source, flag_of, rank_of};
 
 use crate::net_end::NetEnd;
 use crate::node::{Node, NodeId};
 use crate::place::place;
 use std::alloc::{AllocError, Global};
 
-/// The order that a wire from `source` into `node` asks for, or none where the one at hand serves. `Cycle` comes where `node` is `source` or
+/// The nodes, each behind all that it takes from, and a rank of each by its place in the network: of two nodes the one of lesser rank comes
+/// first.
+#[derive(Debug, Drop)]
+pub struct Order {
+    pub nodes: Vec<NodeId>,
+    pub ranks: Vec<u64>,
+}
+
+impl Order {
+    /// The order of no nodes.
+    pub fn new(alloc: Global) -> Order
+        ensures nodes { result.nodes.items ≡ [] }
+        ensures ranks { result.ranks.items ≡ [] }
+    {
+        Order {
+            nodes: Vec::new(alloc),
+            ranks: Vec::new(alloc),
+        }
+    }
+
+    /// Makes room for one node more.
+    pub fn reserve_one(&mut self) -> Result<(), AllocError>
+        ensures nodes { self.new.nodes.items ≡ self.old.nodes.items }
+        ensures ranks { self.new.ranks.items ≡ self.old.ranks.items }
+        ensures node_room { OnOk result (vec_len self.new.nodes < vec_capacity self.new.nodes) }
+        ensures rank_room { OnOk result (vec_len self.new.ranks < vec_capacity self.new.ranks) }
+    {
+        self.nodes.reserve(1)?;
+        self.ranks.reserve(1)
+    }
+
+    /// Puts a new node last, for which room was made. Its number serves as its rank.
+    pub fn push_reserved(&mut self, node: NodeId)
+        requires node_room { vec_len self.old.nodes < vec_capacity self.old.nodes }
+        requires rank_room { vec_len self.old.ranks < vec_capacity self.old.ranks }
+        ensures nodes { self.new.nodes.items ≡ self.old.nodes.items ++ node ∷ [] }
+        ensures ranks { self.new.ranks.items ≡ self.old.ranks.items ++ node ∷ [] }
+    {
+        push_reserved(&mut self.nodes, node);
+        push_reserved(&mut self.ranks, node.number());
+    }
+
+    /// Takes out a node, which stands at `at` in the network.
+    pub fn remove(&mut self, node: NodeId, at: usize)
+        requires { at < length self.old.ranks.items }
+        ensures nodes { self.new.nodes.items ≡ filter (λ x. not (x == node)) self.old.nodes.items }
+        ensures ranks { self.new.ranks.items ≡ remove self.old.ranks.items at }
+    {
+        self.nodes.retain(|x| *x != node);
+        self.ranks.remove(at);
+    }
+
+    /// Orders the nodes for a wire from `source` into `node`. `Cycle` comes where `node` is `source` or upstream of it; a refusal leaves the
+    /// order as it was.
+    pub fn admit(
+        &mut self,
+        alloc: Global,
+        nodes: &[Node],
+        node: NodeId,
+        source: NodeId,
+    ) -> Result<(), NetEnd>
+        requires rising { AllPairs (λ a b. a.number < b.number) nodes.now }
+        requires wires { (x y : ℕ) → Contains (sources nodes.now x) y → IsLive nodes.now y }
+        requires order { IsOrder (sources nodes.now) nodes.now self.old.nodes.items }
+        requires ranking { IsRanking nodes.now self.old.nodes.items self.old.ranks.items }
+        requires node { IsLive nodes.now node }
+        requires source { IsLive nodes.now source }
+        ensures free { OnOk result (searched (length nodes.now) (sources nodes.now) source node ≡ false) }
+        ensures order { OnOk result (IsOrder (with_source (sources nodes.now) node source) nodes.now self.new.nodes.items) }
+        ensures ranking { OnOk result (IsRanking nodes.now self.new.nodes.items self.new.ranks.items) }
+        ensures ranks { OnOk result ((self.new.ranks.items ≡ self.old.ranks.items) ⊎ All (λ rank. rank < length nodes.now) self.new.ranks.items) }
+        ensures refused { IfErr result (λ end. (end ≡ NetEnd.Memory) ⊎ ((end ≡ NetEnd.Cycle) × (searched (length nodes.now) (sources nodes.now) source node ≡ true))) }
+        ensures err { OnErr result (self.new ≡ self.old) }
+    {
+        if self.rank(nodes, source) < self.rank(nodes, node) {
+            return Ok(());
+        }
+        self.nodes = reordered(alloc, nodes, &self.nodes, node, source)?;
+        rank_all(nodes, &self.nodes, &mut self.ranks);
+        Ok(())
+    }
+
+    /// The rank of a node.
+    fn rank(&self, nodes: &[Node], node: NodeId) -> u64
+        requires rising { AllPairs (λ a b. a.number < b.number) nodes.now }
+        requires ranks { length self.now.ranks.items ≡ length nodes.now }
+        requires live { IsLive nodes.now node }
+        ensures { result ≡ rank_of nodes.now self.now.ranks.items node }
+    {
+        self.ranks[place(nodes, node)]
+    }
+}
+
+/// Appends an item for which room was reserved.
+pub fn push_reserved<T: Drop>(items: &mut Vec<T>, item: T)
+    requires { vec_len items.old < vec_capacity items.old }
+    ensures { items.new.items ≡ items.old.items ++ item ∷ [] }
+{
+    match items.push(item) {
+        Ok(()) => {}
+        Err(_) => unreachable!(),
+    }
+}
+
+/// Ranks each node of an order by its place in it.
+fn rank_all(nodes: &[Node], order: &[NodeId], ranks: &mut [u64])
+    requires rising { AllPairs (λ a b. a.number < b.number) nodes.now }
+    requires live { (x : ℕ) → In order.now x → IsLive nodes.now x }
+    requires len { length ranks.old ≡ length nodes.now }
+    ensures len { length ranks.new ≡ length nodes.now }
+    ensures ranks { (x : ℕ) → In order.now x → rank_of nodes.now ranks.new x ≡ position_or_len (λ y. y == x) order.now }
+{
+    for rank in (0..order.len()).rev() {
+        ranks[place(nodes, order[rank])] = rank as u64;
+    }
+}
+
+/// The order with `node` and all downstream of it behind the others, for a wire from `source`. `Cycle` comes where `node` is `source` or
 /// upstream of it.
-pub fn reordered(
+fn reordered(
     alloc: Global,
     nodes: &[Node],
     order: &[NodeId],
     node: NodeId,
     source: NodeId,
-) -> Result<Option<Vec<NodeId>>, NetEnd>
+) -> Result<Vec<NodeId>, NetEnd>
     requires rising { AllPairs (λ a b. a.number < b.number) nodes.now }
     requires wires { (x y : ℕ) → Contains (sources nodes.now x) y → IsLive nodes.now y }
     requires order { IsOrder (sources nodes.now) nodes.now order.now }
-    requires node { IsLive nodes.now node }
     requires source { IsLive nodes.now source }
     ensures free { OnOk result (searched (length nodes.now) (sources nodes.now) source node ≡ false) }
-    ensures order { IfOk result (λ new. IsOrder (with_source (sources nodes.now) node source) nodes.now (order_after new order.now)) }
+    ensures order { IfOk result (λ new. IsOrder (with_source (sources nodes.now) node source) nodes.now new.items) }
     ensures refused { IfErr result (λ end. (end ≡ NetEnd.Memory) ⊎ ((end ≡ NetEnd.Cycle) × (searched (length nodes.now) (sources nodes.now) source node ≡ true))) }
 {
-    if comes_first(order, source, node) {
-        return Ok(None);
-    }
-    let flags = match downstream(alloc, nodes, order, node) {
-        Ok(flags) => flags,
-        Err(AllocError) => return Err(NetEnd::Memory),
-    };
+    let flags = downstream(alloc, nodes, order, node)?;
     if flag(nodes, &flags, source) {
         return Err(NetEnd::Cycle);
     }
-    match flagged_last(alloc, nodes, order, &flags) {
-        Ok(order) => Ok(Some(order)),
-        Err(AllocError) => Err(NetEnd::Memory),
-    }
-}
-
-/// Puts a new order in the place of another, where there is one.
-pub fn put_order(order: &mut Vec<NodeId>, new: Option<Vec<NodeId>>)
-    ensures { order.new.items ≡ order_after new order.old.items }
-{
-    if let Some(new) = new {
-        *order = new;
-    }
-}
-
-/// Takes a node out of an order.
-pub fn take_out(order: &mut Vec<NodeId>, node: NodeId)
-    ensures { order.new.items ≡ filter (λ x. not (x == node)) order.old.items }
-{
-    order.retain(|x| *x != node);
-}
-
-/// Whether `source` stands in the order, and no node as far as it is `node`.
-fn comes_first(order: &[NodeId], source: NodeId, node: NodeId) -> bool
-    ensures { result ≡ comes_first source node order.now }
-{
-    for x in order {
-        if *x == node {
-            return false;
-        }
-        if *x == source {
-            return true;
-        }
-    }
-    false
+    Ok(flagged_last(alloc, nodes, order, &flags)?)
 }
 
 /// Flags each node that is `node` or downstream of it, by its place.

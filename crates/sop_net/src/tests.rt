@@ -35,6 +35,47 @@ fn pair(alloc: Global, name: &str, value: &str) -> Result<TextList, AllocError>
     Ok(pair)
 }
 
+/// The file of a file node.
+fn file_of(net: &Net, node: NodeId) -> Option<&str>
+    requires { IsLive net.now.nodes node }
+{
+    net.is_network();
+    match net.kind(node) {
+        NodeType::File => Some(net.parms(node).text(0)),
+        _ => None,
+    }
+}
+
+/// The input that a switch takes.
+fn input_of(net: &Net, node: NodeId) -> Option<u32>
+    requires { IsLive net.now.nodes node }
+{
+    match net.kind(node) {
+        NodeType::Switch => Some(net.switch_input(node)),
+        _ => None,
+    }
+}
+
+#[test]
+fn parameters_are_read(rt: HostRuntime) -> Result<(), Fail> {
+    let net = sample(rt.alloc())?;
+    assert!(rt; file_of(&net, named(&rt, &net, "f")) == Some("a.obj"));
+    assert!(rt; input_of(&net, named(&rt, &net, "s")) == Some(1));
+    Ok(())
+}
+
+#[test]
+fn a_circle_is_refused(rt: HostRuntime) -> Result<(), Fail> {
+    let mut net = sample(rt.alloc())?;
+    net.add("merge", "m")?;
+    net.wire("m", "0", "s")?;
+    net.add("null", "n")?;
+    net.wire("s", "0", "n")?;
+    assert!(rt; net.wire("n", "0", "m") == Err(NetEnd::Cycle));
+    net.wire("m", "1", "n")?;
+    Ok(())
+}
+
 #[test]
 fn a_network_is_read(rt: HostRuntime) -> Result<(), Fail> {
     let net = sample(rt.alloc())?;

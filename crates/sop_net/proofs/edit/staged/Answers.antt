@@ -12,7 +12,7 @@ returns-then-not-takes-clause-refused c =
     inr (judged-some c.row.result.now.parms.now c.args.kind c.args.name.now c.args.value.now (ap (λ row. row.parms) c.row.ensures) c.in-Some.at _ (sym c.in-Some.ensures) c.takes.result c.takes.ensures
     ∙ ap (λ b. if b then None else Some BadValue) c.if-not-takes.true)
 
-pub returns-in-Ok-clause-ok : goal.returns-in-Ok-clause-ok
-returns-in-Ok-clause-ok c =
+pub returns-clause-ok : goal.returns-clause-ok
+returns-clause-ok c =
     judged-some c.row.result.now.parms.now c.args.kind c.args.name.now c.args.value.now (ap (λ row. row.parms) c.row.ensures) c.in-Some.at _ (sym c.in-Some.ensures) c.takes.result c.takes.ensures
     ∙ ap (λ b. if b then None else Some BadValue) c.if-not-takes.false

@@ -10,4 +10,4 @@ returns-clause-found c =
 
 pub returns-clause-fits : goal.returns-clause-fits
 returns-clause-fits c =
-    subst IsNodeOf (sym c.index.ensures) (c.self.invariant.network.nodes c.place.result c.index.result.now (rw c.deref.ensures.value at c.place.ensures.within))
+    subst IsNodeOf (sym c.index.ensures) (c.self.invariant.0.network.nodes c.place.result c.index.result.now (rw c.deref.ensures.value at c.place.ensures.within))

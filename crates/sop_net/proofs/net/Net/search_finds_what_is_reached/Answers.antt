@@ -9,5 +9,5 @@ returns c =
     rw (← c.self.view_is)
     (λ x y live. (
       searched-reaches (sources c.self.inside.nodes.items) (length c.self.inside.nodes.items) x y,
-      λ reached. searched-true (sources c.self.inside.nodes.items) (length c.self.inside.nodes.items) reached.0 x y (order-within c.self.inside.nodes.items c.self.inside.order.items c.self.invariant.is_order x live) reached.1,
+      λ reached. searched-true (sources c.self.inside.nodes.items) (length c.self.inside.nodes.items) reached.0 x y (order-within c.self.inside.nodes.items c.self.inside.order.nodes.items c.self.invariant.0.is_order x live) reached.1,
     ))

@@ -1,7 +1,0 @@
-use Rattle.std.proofs.Common.{rules, tests}
-use Rattle.std.specs.Prelude.{not, ◌==◌}
-use Rattle.std.proofs.lemmas.Fn.{filter_same}
-use Rattle.sop_net.proofs.order.take_out.Goals as goal
-
-pub returns : goal.returns
-returns c = filter_same _ (λ x. not (x == c.args.node)) _ (λ x kept f' called. search (rules, tests)) _ _ c.retain.ensures.filtered
