@@ -19,7 +19,9 @@ MOST_TIMES = 2.3
 MOST_TIMES_NEAR = 2.5
 KINDS = ("quotes", "slashes", "digits", "pluses", "letters", "spaces")
 DOUBLED = [(f"tokens-{kind}", 65_536, MOST_TIMES) for kind in KINDS] + [
-    ("wildcard", 1000, MOST_TIMES),
+    ("wildcard-name", 65_536, MOST_TIMES),
+    ("wildcard-pattern", 1024, MOST_TIMES),
+    ("wildcard-stars", 1024, MOST_TIMES),
     ("near", 20_000, MOST_TIMES_NEAR),
     ("near", 100_000, MOST_TIMES_NEAR),
 ]
@@ -63,10 +65,13 @@ def write(lines, runs):
         "How the libraries' cost grows",
         "`bench/growth.py --write` makes this table from the program `sop_bench`. Times are seconds of the processor, the median\n"
         f"of {runs} runs, less that of an empty run, or of one that only makes the points. `tokens-..` cuts a text of so many\n"
-        "bytes of one kind, 50 to 2,000 times; `wildcard` matches `*a*a..` of so many bytes with a name of 65, 200,000 times;\n"
-        "`near` finds the points near each of so many; `select-..` selects of so many points, 500 times, by `0-999999:1000`, by\n"
-        "`0-999999:2` and by `*`. The bounds that it checks: twice the size takes at most 2.3 times as long, and 2.5 times for\n"
-        "`near`; and each thousandth point takes less time to select than each second one.",
+        "bytes of one kind, 50 to 2,000 times. `wildcard-name` matches `*aa..ab` of 512 bytes with a name of so many letters `a`\n"
+        "and another behind them, and `wildcard-pattern` such a pattern of so many bytes with such a name of 65,536, 4 times each:\n"
+        "the letters match at each byte of the name, so the work is near the product of both lengths. `wildcard-stars` matches\n"
+        "`*a*a..*b` of so many bytes with a name of as many, 100,000 times. `near` finds the points near each of so many;\n"
+        "`select-..` selects of so many points, 500 times, by `0-999999:1000`, by `0-999999:2` and by `*`. The bounds that it\n"
+        "checks: twice the size takes at most 2.3 times as long, and 2.5 times for `near`; and each thousandth point takes less\n"
+        "time to select than each second one.",
         lines,
     )
 

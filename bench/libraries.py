@@ -7,9 +7,9 @@ PROGRAM is the built crate sop_bench. Its peer, bench/peer.rs, is built with rus
 row and must print the same checksum. A time is the median of the runs, less that of an empty run: of the processor for
 operations on numbers, for pages and for near points, and on the wall for a thousand equal jobs by 1, 2 and 4 workers.
 Where there are 4 processors, 4 workers must be at least 3 times as fast as one, which needs a machine with nothing else
-to do; rows for more workers than processors are not measured. The status is 0 where all of that holds. --size N measures
-N operations, and makes the other rows smaller as much. --write puts the table of the whole measurement into
-docs/BENCH.md with the date.
+to do; rows for more workers than processors are not measured. The plain scan of 100,000 points is run once. The status is
+0 where all of that holds. --size N measures N operations, and makes the other rows smaller as much. --write puts the
+table of the whole measurement into docs/BENCH.md with the date.
 """
 import os
 import sys
@@ -20,7 +20,8 @@ from timing import WALL, arguments, build_peer, measure, ratio, shown, status_of
 OPERATIONS = ("mul", "div", "rem", "sqrt", "length")
 SIZE = 10_000_000
 PAGES = (("pages-set", 1_000_000), ("pages-copy", 100_000))
-NEAR = (("near", 100_000), ("near", 10_000), ("near-scan", 10_000))
+NEAR = (10_000, 20_000, 100_000)
+LONG_SCAN = 100_000  # points: the plain scan of so many takes half a minute, so it is run once
 WORKERS = (1, 2, 4)
 LEAST_SPEEDUP = 3
 
@@ -42,13 +43,13 @@ def operations(programs, sizes, runs, lines):
 
 def neighbors(programs, sizes, runs, lines):
     """A line for each search of near points, less the time to make the points, and what doesn't hold."""
-    problems, former = [], None
-    for row, size in NEAR:
-        size = sizes(size)
-        over = former if row == "near-scan" else None
-        took, wrong = beside(programs, row, size, runs, lines, ("points", size), over)
-        problems += wrong
-        former = (row, took)
+    problems = []
+    for size in map(sizes, NEAR):
+        points = ("points", size)
+        scans = 1 if size >= LONG_SCAN else runs
+        took, wrong = beside(programs, "near", size, runs, lines, points)
+        _, wrong_scan = beside(programs, "near-scan", size, scans, lines, points, ("near", took))
+        problems += wrong + wrong_scan
     return problems
 
 
@@ -80,8 +81,9 @@ def write(lines, runs):
         "operations on numbers, for pages and for near points, seconds on the wall for `gather`, a thousand equal jobs.\n"
         "`pages-set` sets each of so many cells 20 times, beside a `Vec` of the same cells; `pages-copy` is so many first writes\n"
         "into a shared page of 1,024 cells, beside `Rc::make_mut`. `near` finds the points within 0.2 of each of so many random\n"
-        "points, beside a `HashMap` of cells, and `near-scan` does so by a look at all points for each; the time to make the\n"
-        "points is taken off. The bound that it checks: on 4 processors 4 workers are at least 3 times as fast as one.",
+        "points, beside a `HashMap` of cells, and `near-scan` does so by a look at all points for each, once for 100,000; the\n"
+        "time to make the points is taken off. The bound that it checks: on 4 processors 4 workers are at least 3 times as fast\n"
+        "as one.",
         lines,
     )
 

@@ -7,9 +7,10 @@
 //!   of SIZE such bytes into tokens, again and again.
 //! - `pages-set` sets SIZE cells of pages that one place holds, 20 times each; `pages-copy` writes SIZE times into a page
 //!   that two places hold.
-//! - `points` makes a geometry of SIZE points, and the rows behind it make the same one.
-//! - `select-thousandth`, `select-second` and `select-all` select points by a pattern, again and again; `wildcard` matches
-//!   a pattern of SIZE bytes with a name, again and again.
+//! - `points` makes a geometry of SIZE points, the same one as the rows `select-..` and `near..` make.
+//! - `select-thousandth`, `select-second` and `select-all` select points by a pattern, again and again.
+//! - `wildcard-name` matches a pattern with a name of SIZE bytes, `wildcard-pattern` a pattern of SIZE bytes with a name, and
+//!   `wildcard-stars` a pattern of many stars with a name, both of SIZE bytes, again and again.
 //! - `near` finds the points near each of the points, and `near-scan` does so by a look at all of them.
 //!
 //! It reads no clock: it is timed from outside. The status is 2 where the words have another form, and 1 where there is no

@@ -4,7 +4,7 @@ use crate::jobs::sum_of_jobs;
 use crate::neighbors::{Search, sum_of_neighbors};
 use crate::operations::{Operation, checksum};
 use crate::pages::{sum_of_copies, sum_of_sets};
-use crate::patterns::{Holding, sum_of_matches, sum_of_selections};
+use crate::patterns::{Growing, Holding, sum_of_matches, sum_of_selections};
 use crate::tokens::{Filling, sum_of_tokens};
 use std::alloc::Global;
 use std::thread::Threads;
@@ -19,11 +19,11 @@ pub enum Row {
     CopyPages,
     MakePoints,
     Select(Holding),
-    Match,
+    Match(Growing),
     FindNeighbors(Search),
 }
 
-const ROWS: [(&str, Row); 22] = [
+const ROWS: [(&str, Row); 24] = [
     ("none", Row::Nothing),
     ("mul", Row::Numbers(Operation::Mul)),
     ("div", Row::Numbers(Operation::Div)),
@@ -43,7 +43,9 @@ const ROWS: [(&str, Row); 22] = [
     ("select-thousandth", Row::Select(Holding::EachThousandth)),
     ("select-second", Row::Select(Holding::EachSecond)),
     ("select-all", Row::Select(Holding::All)),
-    ("wildcard", Row::Match),
+    ("wildcard-name", Row::Match(Growing::Name)),
+    ("wildcard-pattern", Row::Match(Growing::Pattern)),
+    ("wildcard-stars", Row::Match(Growing::Stars)),
     ("near", Row::FindNeighbors(Search::Cells)),
     ("near-scan", Row::FindNeighbors(Search::Scan)),
 ];
@@ -69,7 +71,7 @@ impl Row {
             Row::CopyPages => sum_of_copies(alloc, size),
             Row::MakePoints => sum_of_points(alloc, size),
             Row::Select(holding) => sum_of_selections(alloc, holding, size),
-            Row::Match => sum_of_matches(alloc, size),
+            Row::Match(growing) => sum_of_matches(alloc, growing, size),
             Row::FindNeighbors(search) => sum_of_neighbors(alloc, search, size),
         }
     }
