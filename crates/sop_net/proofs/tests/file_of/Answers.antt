@@ -1,4 +1,4 @@
-use Rattle.std.proofs.Common.{◌<◌, length, subst}
+use Rattle.std.proofs.Common.{◌∙◌, ◌<◌, length, subst}
 use Rattle.sop_net.proofs.ReadLemmas.{read_node, read_found, node_fits, file_parms}
 use Rattle.sop_net.proofs.tests.file_of.Goals as goal
 
