@@ -132,7 +132,7 @@ fn make(
     match net.kind(node) {
         NodeType::File => made_at(node, read_file(alloc, loaded, net.parms(node).text(0))),
         NodeType::Merge => match gather(alloc, net, loaded, node, left, kept) {
-            Ok(geos) => made_at(node, merge(alloc, geos)),
+            Ok(inputs) => made_at(node, merge(alloc, inputs)),
             Err(end) => Err(end),
         },
         NodeType::Null => give_input(alloc, net, loaded, node, 0, left, kept),
@@ -242,11 +242,11 @@ fn start(alloc: Global, net: &Net, node: NodeId) -> Result<Kept, AllocError>
 
 /// So many places without a geometry.
 fn no_geos(alloc: Global, count: usize) -> Result<Vec<Option<Geo>>, AllocError>
-    ensures { IfOk result (λ geos. AreNone count geos.items) }
+    ensures { IfOk result (λ places. AreNone count places.items) }
 {
-    let mut geos = Vec::with_capacity(alloc, count)?;
+    let mut places = Vec::with_capacity(alloc, count)?;
     for _ in 0..count {
-        geos.push(None)?;
+        places.push(None)?;
     }
-    Ok(geos)
+    Ok(places)
 }

@@ -131,8 +131,8 @@ make-returns-in-Ok-clause-tells t c =
     let wires = wires_used c.args.net.now.nodes c.args.node r.node type.Merge r.found kind in
     told_visit files c.args.net.now.nodes c.args.node r.node (c.is_network.ensures.within_used c.args.node c.requires.live) r.found c.made_at-in-Ok.result
     (visit_known go files c.args.node r.node type.Merge c.made_at-in-Ok.result kind
-    (tells_merge go c.args.node r.node.wires c.in-Ok.geos.items c.made_at-in-Ok.result (ap (gathered go) (sym wires) ∙ c.in-Ok.ensures.tells)
-    (c.made_at-in-Ok.ensures.tells (merge_geo c.in-Ok.geos.items) c.merge.ensures.tells)))
+    (tells_merge go c.args.node r.node.wires c.in-Ok.inputs.items c.made_at-in-Ok.result (ap (gathered go) (sym wires) ∙ c.in-Ok.ensures.tells)
+    (c.made_at-in-Ok.ensures.tells (merge_geo c.in-Ok.inputs.items) c.merge.ensures.tells)))
 
 pub make-returns-in-Err-clause-tells : goal.make-returns-in-Err-clause-tells
 make-returns-in-Err-clause-tells t c =

@@ -4,14 +4,14 @@ use Rattle.sop_cook.proofs.KeptLemmas.{AreNone-nil, AreNone-push}
 use Rattle.sop_cook.proofs.serial.no_geos.Goals as goal
 
 pub loop-init : goal.loop-init
-loop-init c = subst (λ geos. AreNone 0 geos) (sym c.in_ok-geos.ensures.items) AreNone-nil
+loop-init c = subst (λ places. AreNone 0 places) (sym c.in_ok-places.ensures.items) AreNone-nil
 
 pub loop-preserved : goal.loop-preserved
-loop-preserved c = AreNone-push c.loop.counter c.loop.geos.items c.push.new.self.items c.loop.invariant c.in_ok-push.ensures.items
+loop-preserved c = AreNone-push c.loop.counter c.loop.places.items c.push.new.self.items c.loop.invariant c.in_ok-push.ensures.items
 
 pub returns : goal.returns
 returns c =
     let test = c.loop-test.false in
     let ends = c.loop.auto.counter-end in
     let all : c.loop.counter ≡ c.args.count = omega (arith, test, ends) in
-    subst (λ n. AreNone n c.loop.geos.items) all c.loop.invariant
+    subst (λ n. AreNone n c.loop.places.items) all c.loop.invariant

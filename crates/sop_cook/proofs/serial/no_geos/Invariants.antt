@@ -2,4 +2,4 @@ use Rattle.sop_cook.specs.Keeping.{AreNone}
 use Rattle.sop_cook.proofs.serial.no_geos.Given as goal
 
 abbrev pub invariant-loop : goal.invariant-loop
-invariant-loop l = AreNone l.counter l.geos.items
+invariant-loop l = AreNone l.counter l.places.items
