@@ -20,6 +20,13 @@ TOP = os.path.dirname(os.path.dirname(HERE))
 WANT_OF_MEMORY = 7
 
 
+def make_shim(folder):
+    """The library that makes requests fail, built into a folder."""
+    shim = f"{folder}/fail_nth.so"
+    subprocess.run(["cc", "-shared", "-fPIC", "-O2", "-Wall", "-o", shim, f"{HERE}/fail_nth.c"], check=True)
+    return shim
+
+
 def cook(words, shim, fails):
     """Status, the bytes of both streams, and how many requests failed."""
     reads, writes = os.pipe()
@@ -74,8 +81,7 @@ def main():
     args = parser.parse_args()
     passed = wrong = 0
     with tempfile.TemporaryDirectory() as folder:
-        shim = f"{folder}/fail_nth.so"
-        subprocess.run(["cc", "-shared", "-fPIC", "-O2", "-Wall", "-o", shim, f"{HERE}/fail_nth.c"], check=True)
+        shim = make_shim(folder)
         for ending, what in (("", "one request fails"), ("+", "all from one on fail")):
             kept, wants, bad = fail_in_turn([os.path.abspath(args.program), *args.words], shim, args.most, ending)
             print(f"{what}: {kept} times the cook's own answer, {wants} times status {WANT_OF_MEMORY}, {bad} wrong")

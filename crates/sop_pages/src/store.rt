@@ -68,6 +68,7 @@ impl PageStore {
     }
 
     /// The number of pages. A page counts once, however many places hold it.
+    #[tactic(auto, using(crate::proofs::StoreLemmas::live_len))]
     pub fn pages(&self) -> u64
         ensures { result ≡ live_pages self.now }
     {
@@ -114,10 +115,7 @@ impl PageStore {
         ensures moves { Moves self.old self.new [] (id ∷ []) }
         ensures pages { live_pages self.new ≡ live_pages self.old }
     {
-        let Some(held) = self.pages.get_mut(id.key) else {
-            unreachable!()
-        };
-        held.count += 1;
+        self.raise(id);
     }
 
     /// One place less holds the page, which goes when none is left. It takes no memory.
@@ -205,6 +203,19 @@ impl PageStore {
             unreachable!()
         };
         held.page.put(i, cell);
+    }
+
+    // Counts a page one more.
+    fn raise(&mut self, id: PageId)
+        requires live { IsLive self.old id }
+        requires room { count self.old id + 1 < 2 ^ 128 }
+        ensures moves { Moves self.old self.new [] (id ∷ []) }
+        ensures pages { live_pages self.new ≡ live_pages self.old }
+    {
+        let Some(held) = self.pages.get_mut(id.key) else {
+            unreachable!()
+        };
+        held.count += 1;
     }
 
     // Counts a page one less that several places hold.

@@ -2,7 +2,7 @@ use Rattle.std.proofs.Common.{◌≡◌}
 use Rattle.std.specs.Prelude.{Some}
 use Rattle.sop_pages.proofs.StoreLemmas.{found, wrote, wrote_live}
 use Rattle.sop_pages.proofs.MoveLemmas.{share_moves}
-use Rattle.sop_pages.proofs.store.PageStore.share.Goals as goal
+use Rattle.sop_pages.proofs.store.PageStore.raise.Goals as goal
 
 pub returns-clause-moves : goal.returns-clause-moves
 returns-clause-moves c =

@@ -1,0 +1,70 @@
+#!/usr/bin/env python3
+"""Makes every request for memory of the page store's calls fail in turn, over the crate's proved tests.
+
+    calls.py [--tests FILE]
+
+The test that is run makes each call of the store once. Where a call fails, it looks whether pages and cells are as they
+were, and makes the call again; at its end it gives up the places one by one, so that a wrong count shows. For N from 1
+on it is run with its Nth request failing alone, and must end well; then with the Nth and all later ones failing, and
+must end with the store's error for want of memory; until there is no Nth. A failed look or a crash is a failure.
+FILE is the program that `rt test` makes of a crate's tests; without it, `rt test` is run in crates/sop_pages first.
+A C compiler is needed. This is no part of the gate. The last line is 'N passed, M failed'.
+"""
+import argparse
+import os
+import subprocess
+import sys
+import tempfile
+
+import run
+
+CRATE = f"{run.TOP}/crates/sop_pages"
+TEST = "tests::want_of_memory_leaves_the_store"
+WELL = 0, b"\ntest result: ok\n", b""
+WANTING = 101, b"", b"error: AllocError\nthe test failed: its result gives status 1\n"
+MOST = 1000
+
+
+def is_wanted(answer, wanted, what):
+    if tuple(answer) != wanted:
+        print(f"{what}: {answer}; want {wanted}")
+    return tuple(answer) == wanted
+
+
+def fail_in_turn(words, shim, ending, wanted):
+    """Whether the run ended as wanted, for each request in turn."""
+    ended = []
+    for number in range(1, MOST + 1):
+        *answer, failed = run.cook(words, shim, f"{number}{ending}")
+        if not failed:
+            return ended
+        ended.append(is_wanted(answer, wanted, f"request {number}{ending}"))
+    print(f"more than {MOST} requests: the rest was not tried")
+    return [*ended, False]
+
+
+def main():
+    parser = argparse.ArgumentParser()
+    parser.add_argument("--tests")
+    tests = parser.parse_args().tests
+    if not tests:
+        tests = f"{CRATE}/out/sop_pages_tests"
+        subprocess.run(["rt", "test"], cwd=CRATE, check=True, stdout=subprocess.DEVNULL)
+    words = [os.path.abspath(tests), TEST]
+    with tempfile.TemporaryDirectory() as folder:
+        shim = run.make_shim(folder)
+        *answer, _ = run.cook(words, shim, "0")
+        alone = fail_in_turn(words, shim, "", WELL)
+        on = fail_in_turn(words, shim, "+", WANTING)
+    print(f"{len(alone)} requests failed alone, and {len(on)} with all later ones")
+    ended = [is_wanted(answer, WELL, "no request"), *alone, *on]
+    if not alone or len(alone) != len(on):
+        print("each request must fail once alone and once with all later ones, and there must be one")
+        ended.append(False)
+    wrong = ended.count(False)
+    print(f"{ended.count(True)} passed, {wrong} failed")
+    return 1 if wrong else 0
+
+
+if __name__ == "__main__":
+    sys.exit(main())
