@@ -1,5 +1,5 @@
 // What a cook keeps.
-ghost use Rattle.std.specs.Prelude.{◌≡◌, ◌<◌, ◌⊎◌, length, None, Some, OnErr, slice_get, slice_set};
+ghost use Rattle.std.specs.Prelude.{◌≡◌, ◌<◌, ◌⊎◌, length, None, Some, OnErr, OnOk, slice_get, slice_index, slice_set};
 
 use sop_model::{Copied, Geo};
 use std::alloc::{AllocError, Global};
@@ -30,6 +30,7 @@ impl Kept {
         requires geos { x < length self.old.geos.items }
         ensures uses { self.new.uses.items ≡ self.old.uses.items }
         ensures geos { (self.new.geos.items ≡ self.old.geos.items) ⊎ (self.new.geos.items ≡ slice_set self.old.geos.items x (Some geo.now)) }
+        ensures kept { OnOk result (0 < slice_index self.old.uses.items x → self.new.geos.items ≡ slice_set self.old.geos.items x (Some geo.now)) }
         ensures err { OnErr result (self.new.geos.items ≡ self.old.geos.items) }
     {
         if self.uses[x] > 0 {
