@@ -1,6 +1,6 @@
 -- The loads of a cook: what is added, what is needed, and that the cook over them is the one over the files that were told.
 use Rattle.std.proofs.Common.{◌≡◌, Bool, true, false, cond, ℕ, zero, suc, ◌≤◌, List, [], ◌∷◌, ◌++◌, length, take, ◌⊎◌, inl, inr, refl, sym, ◌∙◌, ap, subst, arith, append_assoc}
-use Rattle.std.specs.Prelude.{All, Contains, Option, None, Some, IsTrue, IfSome, is_some, unwrap_or}
+use Rattle.std.specs.Prelude.{All, Contains, Option, None, Some, IsTrue, IfSome, is_some, unwrap_or, option_map, slice_get}
 use Rattle.std.specs.List.{list_any, flat_map}
 use Rattle.std.specs.Cmp.Lexicographic.{slice_cmp, nat_list_cmp_total}
 use Rattle.std.specs.FinMap.{get, insert, get-insert, empty, get-empty}
@@ -17,6 +17,7 @@ use Rattle.sop_net.specs.declared.kind.NodeType.TheVariants as type
 use Rattle.sop_net.specs.declared.node.Node.{Node}
 use Rattle.sop_net.specs.Network.{node_of, used_sources, parm_at, IsLive}
 use Rattle.sop_net.specs.Needs.{walk, file_of, file_of_node, file_of_type, is_file_named, listed, with_file, first_files, needed}
+use Rattle.sop_net.proofs.ReadLemmas.{first_parm, read_node}
 use Rattle.sop_cook.specs.declared.loaded.LoadedFile.{LoadedFile}
 use Rattle.sop_cook.specs.declared.loaded.LoadedFile.TheVariants.{Missing}
 use Rattle.sop_cook.specs.Loads.{Loads, FileMap, file_in}
@@ -164,9 +165,11 @@ file_kind n other is h = let no : ⊥ = cc in absurd no
 pub file_is_file : (nodes : List Node) (x : ℕ) (n : Node) → IsFileNode nodes x → node_of nodes x ≡ Some n → n.kind ≡ type.File
 file_is_file nodes x n h found = file_kind n n.kind refl (subst (λ f. IsTrue (is_some (file_of_node f))) found h)
 
-pub file_name : (nodes : List Node) (x : ℕ) (n : Node) (name : List ℕ) → node_of nodes x ≡ Some n → file_of nodes x ≡ Some name → n.kind ≡ type.File → parm_at n.parms 0 ≡ name
-file_name nodes x n name found is kind =
-    let e : Some (parm_at n.parms 0) ≡ Some name = sym (ap file_of_node found ∙ ap (λ k. file_of_type k n) kind) ∙ is in cc
+pub file_told : (nodes : List Node) (x : ℕ) (texts : List (List ℕ)) (text : List ℕ) → IsFileNode nodes x → option_map (λ n. n.parms) (node_of nodes x) ≡ Some texts → slice_get texts 0 ≡ Some text
+    → file_of nodes x ≡ Some text
+file_told nodes x texts text file parms first =
+    let r = read_node nodes x (λ n. n.parms) texts parms in
+    ap file_of_node r.found ∙ ap (λ k. file_of_type k r.node) (file_is_file nodes x r.node file r.found) ∙ ap (λ ts. Some (parm_at ts 0)) r.is ∙ ap Some (sym (first_parm texts text first))
 
 pub told_added : (told : Option Names) (old new : Loads) (name : List ℕ) (file : LoadedFile) → new ≡ insert old name file → IfSome told (λ names. file ≡ told_files names name) → IfSome told (λ names. HoldsLoads names old → HoldsLoads names new)
 told_added None old new name file is told = told
@@ -181,10 +184,10 @@ pub files_none : (nodes : List Node) (loads : Loads) → HasFilesOf nodes [] loa
 files_none nodes loads x name here is = absurd (omega (arith, here.1))
 
 -- one node more was loaded
-pub files_more : (nodes : List Node) (xs : List ℕ) (x : ℕ) (old new : Loads) (name : List ℕ) → HasFilesOf nodes xs old → Keeps old new → Has new name → ((file : List ℕ) → file_of nodes x ≡ Some file → file ≡ name) → HasFilesOf nodes (xs ++ x ∷ []) new
+pub files_more : (nodes : List Node) (xs : List ℕ) (x : ℕ) (old new : Loads) (name : List ℕ) → HasFilesOf nodes xs old → Keeps old new → Has new name → file_of nodes x ≡ Some name → HasFilesOf nodes (xs ++ x ∷ []) new
 files_more nodes xs x old new name has keeps here own y file c is = elim (Contains-push_cases xs x y c) [
   | inl before ↦ keeps file (has y file before is)
-  | inr same ↦ subst (Has new) (sym (own file (ap (file_of nodes) same ∙ is))) here
+  | inr same ↦ let both : Some name ≡ Some file = sym own ∙ ap (file_of nodes) same ∙ is in let its : name ≡ file = cc in subst (Has new) its here
 ]
 
 pub told_more : (told now : Option Names) (a b : Loads) → now ≡ told → IfSome told (λ names. HoldsLoads names a) → IfSome now (λ names. HoldsLoads names a → HoldsLoads names b) → IfSome told (λ names. HoldsLoads names b)

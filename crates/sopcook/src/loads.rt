@@ -1,7 +1,7 @@
 // The files that a cook needs, loaded before any is read.
-ghost use Rattle.std.specs.Prelude.{◌≡◌, ◌≤◌, All, Err, Ok, IfOk, IfSome, OnOk};
+ghost use Rattle.std.specs.Prelude.{◌≡◌, ◌≤◌, All, Err, Ok, IfOk, IfSome, OnOk, Some};
 ghost use Rattle.sop_outside.specs.Causes.{Counts, Rose};
-ghost use Rattle.sop_net.specs.Needs.{needed};
+ghost use Rattle.sop_net.specs.Needs.{file_of, needed};
 ghost use Rattle.sop_net.specs.Network.{IsLive};
 ghost use Rattle.sopcook.specs.Loads.{Has, HasFilesOf, HasMissing, HoldsLoads, IsFileNode, Keeps, MissesBy, told_files};
 
@@ -53,6 +53,16 @@ fn load_file<F: Files>(
     Ok(())
 }
 
+/// The name of the file of a `file` node.
+#[tactic(auto, using(crate::proofs::LoadsLemmas::file_told))]
+fn file_name(net: &Net, node: NodeId) -> &str
+    requires { IsFileNode net.now.nodes node }
+    ensures { file_of net.now.nodes node ≡ Some result.now }
+{
+    net.is_network();
+    net.parms(node).text(0)
+}
+
 /// Loads the files of `file` nodes.
 fn load_files<F: Files>(
     files: &mut F,
@@ -68,10 +78,9 @@ fn load_files<F: Files>(
     ensures misses_later { F.misses files.old ≤ F.misses files.new }
     ensures missing { IfOk result (λ loaded. HasMissing loaded → Rose (F.misses files.old) (F.misses files.new)) }
 {
-    net.is_network();
     let mut loaded = Loaded::new(alloc);
     for node in nodes {
-        load_file(files, alloc, net.parms(*node).text(0), &mut loaded)?;
+        load_file(files, alloc, file_name(net, *node), &mut loaded)?;
     }
     Ok(loaded)
 }
