@@ -3,7 +3,7 @@
 
     calls.py [--tests FILE]
 
-The test that is run makes each call of the store once. Where a call fails, it looks whether pages and cells are as they
+The test that is run makes each call of the store. Where a call fails, it looks whether pages and cells are as they
 were, and makes the call again; at its end it gives up the places one by one, so that a wrong count shows. For N from 1
 on it is run with its Nth request failing alone, and must end well; then with the Nth and all later ones failing, and
 must end with the store's error for want of memory; until there is no Nth. A failed look or a crash is a failure.
