@@ -1,5 +1,5 @@
 -- Worked examples of the definitions.
-use Rattle.std.proofs.Common.{◌≡◌, [], ◌∷◌, ℕ, Some, None, refl}
+use Rattle.std.proofs.Common.{◌≡◌, [], ◌∷◌, Some, None, refl}
 use Rattle.sop_pages.specs.declared.cell.Cell.TheVariants.{Name}
 use Rattle.sop_pages.specs.Pages.{Store, count, cells, live_pages}
 use Rattle.sop_pages.specs.Moves.{times}

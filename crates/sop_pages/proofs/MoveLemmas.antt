@@ -2,14 +2,14 @@
 use Rattle.std.proofs.Common.{◌≡◌, ◌≢◌, ℕ, zero, suc, ◌+◌, ◌<◌, ◌≤◌, List, [], ◌∷◌, ◌++◌, map, refl, ap, sym, ◌∙◌, subst, arith, inl, inr}
 use Rattle.std.proofs.lemmas.List.{map-append}
 use Rattle.std.proofs.lemmas.Bool.Decides.{nat_tests}
-use Rattle.std.specs.Prelude.{Option, Some, None, IfSome, ◌⊎◌, ◌==◌, if◌then◌else◌}
+use Rattle.std.specs.Prelude.{Option, Some, None, IfSome, ◌⊎◌}
 use Rattle.slab.specs.Slab.{Slab, get, Updates}
 use Rattle.sop_pages.specs.declared.cell.Cell.{Cell}
 use Rattle.sop_pages.specs.declared.page.Page.{Page}
 use Rattle.sop_pages.specs.declared.store.Counted.{Counted}
-use Rattle.sop_pages.specs.Pages.{Held, Store, page_at, cells, count, cells_of, count_of, IsLive}
+use Rattle.sop_pages.specs.Pages.{Held, Store, page_at, cells, count, cells_of, count_of}
 use Rattle.sop_pages.specs.Slots.{store_of, held, AllCounted}
-use Rattle.sop_pages.specs.Moves.{times, Covers, Moves}
+use Rattle.sop_pages.specs.Moves.{times, Moves}
 use Rattle.sop_pages.proofs.StoreLemmas.{Changes, changes, found, held_at}
 
 pub same_or : (x y : ℕ) → (x ≡ y) ⊎ (x ≢ y)

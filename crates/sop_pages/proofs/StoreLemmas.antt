@@ -1,5 +1,5 @@
 -- What a step of the slab is for the store that contracts see.
-use Rattle.std.proofs.Common.{◌≡◌, ◌≢◌, ℕ, zero, suc, ◌+◌, ◌≤◌, ◌<◌, List, [], ◌∷◌, refl, ap, sym, ◌∙◌, subst, map, arith}
+use Rattle.std.proofs.Common.{◌≡◌, ◌≢◌, ℕ, zero, suc, ◌+◌, List, [], ◌∷◌, refl, ap, sym, ◌∙◌, subst, map}
 use Rattle.std.specs.Prelude.{Option, Some, None, is_some, slice_index_or, slice_set, cond}
 use Rattle.std.proofs.lemmas.List.Recursion.{is_count_by}
 use Rattle.slab.specs.Slab.{Slab, get, slab_len, Updates, with_value}

@@ -1,6 +1,4 @@
-use Rattle.std.proofs.Common.{◌≡◌, ◌+◌, ℕ, ◌∙◌, ◌∷◌, [], ap, sym, arith, length-append}
-use Rattle.sop_pages.specs.Pages.{live_pages}
-use Rattle.sop_pages.specs.Slots.{store_of}
+use Rattle.std.proofs.Common.{◌∷◌, [], arith, length-append}
 use Rattle.sop_pages.proofs.StoreLemmas.{live_len}
 use Rattle.sop_pages.proofs.MoveLemmas.{fill_counted, fill_moves, fill_cells}
 use Rattle.sop_pages.proofs.store.put_reserved.Goals as goal

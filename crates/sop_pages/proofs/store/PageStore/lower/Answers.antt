@@ -1,4 +1,4 @@
-use Rattle.std.proofs.Common.{◌≡◌, ◌+◌, ◌-◌, ◌<◌, ℕ, ap, arith}
+use Rattle.std.proofs.Common.{◌≡◌, ◌-◌, ℕ, ap, arith}
 use Rattle.std.specs.Prelude.{Some}
 use Rattle.sop_pages.specs.Pages.{page_at, count, count_of}
 use Rattle.sop_pages.proofs.StoreLemmas.{found, wrote, wrote_live}

@@ -1,4 +1,3 @@
-use Rattle.std.proofs.Common.{◌≡◌}
 use Rattle.std.specs.Prelude.{Some}
 use Rattle.sop_pages.proofs.StoreLemmas.{found, wrote, wrote_live}
 use Rattle.sop_pages.proofs.MoveLemmas.{share_moves}

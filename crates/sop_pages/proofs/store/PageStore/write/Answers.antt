@@ -1,6 +1,6 @@
-use Rattle.std.proofs.Common.{◌≡◌, ◌∙◌, ap}
+use Rattle.std.proofs.Common.{◌∙◌, ap}
 use Rattle.std.specs.Prelude.{Option, Some, slice_set}
-use Rattle.sop_pages.specs.Pages.{Held, page_at, count, count_of, cells_of}
+use Rattle.sop_pages.specs.Pages.{Held, count_of, cells_of}
 use Rattle.sop_pages.proofs.StoreLemmas.{Changes, found, wrote, wrote_live}
 use Rattle.sop_pages.proofs.MoveLemmas.{write_moves}
 use Rattle.sop_pages.proofs.store.PageStore.write.Goals as goal
