@@ -97,6 +97,7 @@ fn a_node_is_removed(rt: HostRuntime) -> Result<(), Fail> {
     let mut net = sample(rt.alloc())?;
     net.remove("f")?;
     assert!(rt; net.find("f").is_none());
+    assert_eq!(rt; net.place(named(&rt, &net, "s")), 0);
     Ok(())
 }
 

@@ -1,14 +1,11 @@
-use Rattle.std.proofs.Common.{rules}
-use Rattle.std.proofs.lemmas.List.Sorted.{answers_always}
-use Rattle.sop_net.proofs.PlaceLemmas.{search-finds, search-place}
+use Rattle.std.proofs.Common.{◌≡◌, ◌<◌, ◌∙◌, sym, ap, length, get_or, rules}
+use Rattle.std.proofs.lemmas.Bool.{eqb-true}
+use Rattle.sop_net.proofs.PlaceLemmas.{place-at}
 use Rattle.sop_net.proofs.place.place.Goals as goal
 
-pub unreachable-requires : goal.unreachable-requires
-unreachable-requires c =
-    search-finds c.args.nodes.now c.args.node c.in-Err.field-0 c.requires.rising c.requires.live
-    (rw (← c.number.ensures) (c.in-Err.ensures.position (λ n. n.number) (answers_always _ _ _ (λ f a r g called. search rules))))
-
-pub returns-clause-place : goal.returns-clause-place
-returns-clause-place c =
-    search-place c.args.nodes.now c.args.node c.in-Ok.at c.requires.rising c.in-Ok.ensures.bound
-    (rw (← c.number.ensures) (c.in-Ok.ensures.position (λ n. n.number) (answers_always _ _ _ (λ f a r g called. search rules))))
+pub returns-in-Some-clause-place : goal.returns-in-Some-clause-place
+returns-in-Some-clause-place c =
+    let within : c.number-first.result < length c.args.nodes.now = search rules in
+    let read : c.in-Some.there.now ≡ get_or c.args.nodes.now c.number-first.result c.in-Some.there.now = search rules in
+    place-at c.args.nodes.now c.number-first.result c.args.node c.in-Some.there.now c.requires.rising within
+    (ap (λ n. n.number) (sym read) ∙ eqb-true c.in-Some.there.now.number c.args.node (sym c.eq.ensures ∙ c.if-eq.true))
