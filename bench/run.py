@@ -28,7 +28,7 @@ MOST_TIMES = 2.3
 MOST_BYTES = 3_000_000_000
 SHORTEST = 0.05  # seconds: a ratio over a shorter time says nothing
 SHORTEST_COMMANDS = 0.002  # a command file is read quickly, so it is read in more runs
-COMMAND_RUNS = 7  # so many times as many
+COMMAND_RUNS = 25  # so many times as many
 
 
 def rows_of(count):
@@ -139,23 +139,26 @@ def series(program, name, most, inputs, runs):
     return lines, problems
 
 
-def read_commands(program, make, size, runs):
-    """The median time less that of an empty cook, bytes read, and the statuses other than 0."""
-    with tempfile.TemporaryDirectory() as folder:
-        write_chain(folder, 1)
-        empty = statistics.median([cook(program, folder, "out")[0] for _ in range(runs)])
-        make(folder, size)
-        ran = [cook(program, folder, "out") for _ in range(runs)]
-        length = os.path.getsize(f"{folder}/cook.cmd")
-    statuses = {status for _, _, status in ran} - {0}
-    return statistics.median([took for took, _, _ in ran]) - empty, length, statuses
+def read_commands(program, make, sizes, runs):
+    """For each size the median time less that of an empty cook, bytes read, and the statuses other than 0. The runs take turns."""
+    with tempfile.TemporaryDirectory() as top:
+        folders = [f"{top}/{size}" for size in (0, *sizes)]
+        for folder in folders:
+            os.mkdir(folder)
+        write_chain(folders[0], 1)
+        for folder, size in zip(folders[1:], sizes):
+            make(folder, size)
+        ran = [[cook(program, folder, "out") for folder in folders] for _ in range(runs)]
+        lengths = [os.path.getsize(f"{folder}/cook.cmd") for folder in folders[1:]]
+    empty, *times = (statistics.median(took for took, _, _ in kind) for kind in zip(*ran))
+    _, *statuses = ({status for _, _, status in kind} - {0} for kind in zip(*ran))
+    return zip(sizes, [took - empty for took in times], lengths, statuses)
 
 
 def command_series(program, name, make, size, runs):
     """A line of the table for a half and the whole of a command file, and what doesn't hold."""
     lines, problems, before = [], [], None
-    for part in (size // 2, size):
-        took, length, statuses = read_commands(program, make, part, runs * COMMAND_RUNS)
+    for part, took, length, statuses in read_commands(program, make, (size // 2, size), runs * COMMAND_RUNS):
         times = took / before if before and before >= SHORTEST_COMMANDS else None
         if statuses:
             problems.append(f"{name}, {part:,}: status {min(statuses)}")
@@ -174,7 +177,8 @@ def write_commands(lines, runs):
         "How command files cost",
         "`bench/run.py --write` makes this table. A file of nodes has so many merges in a row, each with one input or 32 wired to\n"
         "the one before; a file of comments and sets has so many bytes. Times are seconds of the processor, the median of\n"
-        f"{runs * COMMAND_RUNS} runs, less that of an empty cook. The bound that it checks: twice the input takes at most 2.3 times as long.",
+        f"{runs * COMMAND_RUNS} runs that take turns, less that of an empty cook. The bound that it checks: twice the input takes at most 2.3 times\n"
+        "as long.",
         lines,
     )
 
