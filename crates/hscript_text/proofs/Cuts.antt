@@ -10,7 +10,7 @@ use Rattle.std.specs.Prelude.{Option, Some, None, is_some}
 use Rattle.std.specs.Option.{option_map}
 use Rattle.std.specs.List.{prefix_len}
 use Rattle.std.specs.Str.{IsUtf8, IsCharBoundary}
-use Rattle.sop_model.specs.Geometry.{starts_name, continues_name}
+use Rattle.sop_model.specs.Names.{starts_name, continues_name}
 use Rattle.hscript_text.specs.declared.style.Style.{Style}
 use Rattle.hscript_text.specs.declared.style.Style.TheVariants.{Bare, Single, Double}
 use Rattle.hscript_text.specs.Pieces.{name_len, begins, escape_of, is_plain}

@@ -1,7 +1,7 @@
 -- No step of a network is refused for want of memory.
 use Rattle.std.proofs.Common.{◌≡◌, ℕ, List, [], ◌∷◌, Bool, true, false, cond, not, length}
 use Rattle.std.specs.Prelude.{Option, None, Some, Ok, Err, is_some, find, slice_get, bytes_eq, nat_lt}
-use Rattle.sop_model.specs.Geometry.{is_name}
+use Rattle.sop_model.specs.Names.{is_name}
 use Rattle.sop_net.specs.declared.kind.NodeType.{NodeType}
 use Rattle.sop_net.specs.declared.node.Node.{Node}
 use Rattle.sop_net.specs.declared.net_end.NetEnd.{NetEnd}

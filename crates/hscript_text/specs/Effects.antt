@@ -1,7 +1,7 @@
 -- What a command does to the network, the variables and the echoed text, by its words.
 use Rattle.std.specs.Prelude.{ℕ, ◌%◌, Bool, ◌&&◌, if◌then◌else◌, nat_le, ◌==◌, List, [], ◌∷◌, ◌++◌, length, Option, None, Some, Result, Ok, Err, codes, bytes_eq}
 use Rattle.std.specs.List.{join_with_byte}
-use Rattle.sop_model.specs.Geometry.{is_name}
+use Rattle.sop_model.specs.Names.{is_name}
 use Rattle.sop_net.specs.declared.net_end.NetEnd.{NetEnd}
 use Rattle.sop_net.specs.declared.net_end.NetEnd.TheVariants as end
 use Rattle.sop_net.specs.Network.{Network, empty_network}

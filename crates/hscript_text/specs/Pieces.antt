@@ -1,7 +1,7 @@
 -- What a word's text means, piece by piece: a byte that stands for itself, an escape or a variable.
 use Rattle.std.specs.Prelude.{ℕ, zero, suc, ◌+◌, ◌-◌, Bool, true, false, if◌then◌else◌, ◌&&◌, ◌||◌, not, ◌==◌, nat_le, List, [], ◌∷◌, ◌++◌, length, take, drop, min, Option, None, Some, Result, Ok, Err, bytes_eq}
 use Rattle.std.specs.List.{prefix_len}
-use Rattle.sop_model.specs.Geometry.{starts_name, continues_name}
+use Rattle.sop_model.specs.Names.{starts_name, continues_name}
 use Rattle.hscript_text.specs.declared.kind.ScriptKind.{ScriptKind}
 use Rattle.hscript_text.specs.declared.kind.ScriptKind.TheVariants.{Quote, NoVar, LongWord}
 use Rattle.hscript_text.specs.declared.style.Style.{Style}

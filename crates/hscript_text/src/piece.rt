@@ -2,7 +2,7 @@
 ghost use Rattle.std.specs.Prelude.{◌≡◌, ℕ, ◌+◌, ◌<◌, ◌≤◌, ◌∷◌, [], IfOk, IfErr, length, drop, MatchResult};
 ghost use Rattle.std.specs.List.{prefix_len};
 ghost use Rattle.std.specs.Option.{option_copied, option_map};
-ghost use Rattle.sop_model.specs.Geometry.{starts_name, continues_name};
+ghost use Rattle.sop_model.specs.Names.{starts_name, continues_name};
 ghost use Rattle.hscript_text.specs.Pieces.{name_len, begins, is_plain, escape_of, escape, variable, named, braced, word_of};
 ghost use Rattle.hscript_text.specs.Reading.{variables_of, grown, IsStop, IsTaken};
 

@@ -1,7 +1,7 @@
 // What commands are called, and what begins between them.
 ghost use Rattle.std.specs.Prelude.{◌≡◌};
 ghost use Rattle.std.specs.List.{list_all};
-ghost use Rattle.sop_model.specs.Geometry.{continues_name, is_name};
+ghost use Rattle.sop_model.specs.Names.{continues_name, is_name};
 ghost use Rattle.hscript_text.specs.Effects.{verb_of};
 ghost use Rattle.hscript_text.specs.Script.{start_of};
 

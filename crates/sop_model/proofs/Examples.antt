@@ -9,7 +9,8 @@ use Rattle.sop_model.specs.declared.value.Kind.TheVariants as kind
 use Rattle.sop_model.specs.declared.value.Value.TheVariants as value
 use Rattle.sop_model.specs.Values.{put, weight_of, zero_vector}
 use Rattle.sop_model.specs.Vertices.{first_vertex_in, prim_in}
-use Rattle.sop_model.specs.Geometry.{empty_row, no_heads, position_head, empty_geo, is_name, fits, geo_weight}
+use Rattle.sop_model.specs.Names.{is_name}
+use Rattle.sop_model.specs.Geometry.{empty_row, no_heads, position_head, empty_geo, fits, geo_weight}
 use Rattle.sop_model.specs.Merge.{merged}
 
 -- names

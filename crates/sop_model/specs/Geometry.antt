@@ -3,10 +3,9 @@
 -- A geometry has one detail element, points, and primitives with their vertices. Each class has heads (attributes: a name and a kind) and
 -- groups, each element a value for each head and a flag for each group. The first point head is the vector `P`. The detail has no group.
 -- Names of heads are distinct within their class, and so are names of groups.
-use Rattle.std.specs.Prelude.{◌≡◌, ℕ, ◌+◌, ◌<◌, ◌≤◌, nat_le, Bool, true, false, ◌&&◌, ◌||◌, ◌==◌, IsTrue, List, [], ◌∷◌, length, map, sum_by, All, Option, slice_get, codes, not}
-use Rattle.std.specs.List.{list_all, list_any}
+use Rattle.std.specs.Prelude.{◌≡◌, ℕ, ◌+◌, ◌<◌, ◌≤◌, nat_le, Bool, true, false, ◌&&◌, IsTrue, List, [], ◌∷◌, length, map, sum_by, All, Option, slice_get, codes}
+use Rattle.std.specs.List.{list_all}
 use Rattle.std.specs.Option.{option_and_then}
-use Rattle.std.specs.Str.{bytes_eq}
 use Rattle.sop_model.specs.declared.class.Class.{Class}
 use Rattle.sop_model.specs.declared.class.Class.TheVariants.{Detail, Prim, Point, Vertex}
 use Rattle.sop_model.specs.declared.geo.Geo.{Geo}
@@ -17,6 +16,8 @@ use Rattle.sop_model.specs.declared.value.Kind.TheVariants as kind
 use Rattle.sop_model.specs.declared.value.Value.{Value}
 use Rattle.sop_model.specs.Values.{kind_of, weight_of}
 use Rattle.sop_model.specs.Vertices.{size_of, corners_of}
+use Rattle.sop_model.specs.Names.{is_name, are_distinct}
+use Rattle.sop_model.specs.Limits.{most_points, most_prims, most_vertices, most_heads, most_groups, most_weight}
 
 abbrev pub empty_row : Row
 empty_row = record { values = []; flags = [] }
@@ -60,28 +61,6 @@ value_at g class head element = option_and_then (λ row. slice_get row.values he
 abbrev pub flag_at : Geo → Class → ℕ → ℕ → Option Bool
 flag_at g class group element = option_and_then (λ row. slice_get row.flags group) (slice_get (rows_of g class) element)
 
-abbrev pub is_letter : ℕ → Bool
-is_letter b = (nat_le 65 b && nat_le b 90) || (nat_le 97 b && nat_le b 122)
-
-abbrev pub is_digit_byte : ℕ → Bool
-is_digit_byte b = nat_le 48 b && nat_le b 57
-
-abbrev pub starts_name : ℕ → Bool
-starts_name b = is_letter b || (b == 95)
-
-abbrev pub continues_name : ℕ → Bool
-continues_name b = starts_name b || is_digit_byte b
-
--- a letter or `_`, then letters, digits or `_`, 1 to 64 bytes
-abbrev pub is_name : List ℕ → Bool
-is_name [] = false
-is_name (b ∷ bytes) = starts_name b && list_all continues_name bytes && nat_le (length bytes) 63
-
--- no name stands twice
-abbrev pub are_distinct : List (List ℕ) → Bool
-are_distinct [] = true
-are_distinct (name ∷ names) = not (list_any (bytes_eq name) names) && are_distinct names
-
 -- names of heads and of groups are names, each distinct
 pub record IsNamed (set : HeadSet) : Type 0 where
   pub heads : IsTrue (list_all is_name (map (λ h. h.name) set.heads))
@@ -114,11 +93,11 @@ pub record IsGood (g : Geo) : Type 0 where
 
 -- at most so many elements, heads and groups
 pub record IsWithin (g : Geo) : Type 0 where
-  pub points : length g.points ≤ 1000000
-  pub prims : length g.prims ≤ 1000000
-  pub vertices : length (corners_of g.prims) ≤ 4000000
-  pub heads : (class : Class) → length (heads_of g class).heads ≤ 64
-  pub groups : (class : Class) → length (heads_of g class).groups ≤ 256
+  pub points : length g.points ≤ most_points
+  pub prims : length g.prims ≤ most_prims
+  pub vertices : length (corners_of g.prims) ≤ most_vertices
+  pub heads : (class : Class) → length (heads_of g class).heads ≤ most_heads
+  pub groups : (class : Class) → length (heads_of g class).groups ≤ most_groups
 
 abbrev pub row_weight : Row → ℕ
 row_weight row = sum_by weight_of row.values
@@ -130,16 +109,16 @@ geo_weight g = sum_by row_weight (rows_of g Detail) + sum_by row_weight (rows_of
 -- within every limit of a geometry
 pub record Fits (g : Geo) : Type 0 where
   pub within : IsWithin g
-  pub weight : geo_weight g ≤ 40000000
+  pub weight : geo_weight g ≤ most_weight
 
 -- whether the heads and groups of a class are within their limits
 abbrev pub class_fits : HeadSet → Bool
-class_fits set = nat_le (length set.heads) 64 && nat_le (length set.groups) 256
+class_fits set = nat_le (length set.heads) most_heads && nat_le (length set.groups) most_groups
 
 -- whether a geometry is within every limit, as `Fits` says it
 abbrev pub fits : Geo → Bool
-fits g = nat_le (length g.points) 1000000 && nat_le (length g.prims) 1000000 && nat_le (length (corners_of g.prims)) 4000000
-    && class_fits g.detail && class_fits g.prim && class_fits g.point && class_fits g.vertex && nat_le (geo_weight g) 40000000
+fits g = nat_le (length g.points) most_points && nat_le (length g.prims) most_prims && nat_le (length (corners_of g.prims)) most_vertices
+    && class_fits g.detail && class_fits g.prim && class_fits g.point && class_fits g.vertex && nat_le (geo_weight g) most_weight
 
 -- the point head `P` alone, and no group
 pub record HasOnlyPosition (g : Geo) : Type 0 where

@@ -1,3 +1,5 @@
+pub mod Limits
+pub mod Names
 pub mod Values
 pub mod Vertices
 pub mod Geometry

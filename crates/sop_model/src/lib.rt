@@ -5,6 +5,8 @@ pub mod class;
 pub mod copies;
 pub mod fault;
 pub mod geo;
+pub mod limits;
+pub mod name;
 pub mod primitives;
 pub mod rows;
 pub mod value;
@@ -17,6 +19,7 @@ pub use geo::{
     Corner, CornerList, FlagList, Geo, Head, HeadList, HeadSet, Prim, Primitive, Row, RowList,
     ValueList,
 };
+pub use name::{continues_name, is_name, starts_name};
 pub use primitives::PrimList;
 pub use value::{IntList, Kind, RealList, Value, ValueRef, VectorList};
 pub use view::{GeoView, Inputs};

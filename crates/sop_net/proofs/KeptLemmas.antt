@@ -3,7 +3,7 @@ use Rattle.std.proofs.Common.{◌≡◌, sym, ap, subst, ℕ, ◌+◌, ◌<◌, 
 use Rattle.std.specs.Prelude.{None, Some, map, All, filter, remove}
 use Rattle.std.specs.List.{position_or_len}
 use Rattle.std.proofs.lemmas.List.Elements.{All-weaker}
-use Rattle.sop_model.specs.Geometry.{is_name}
+use Rattle.sop_model.specs.Names.{is_name}
 use Rattle.sop_net.specs.declared.kind.NodeType.{NodeType}
 use Rattle.sop_net.specs.declared.node.Node.{Node}
 use Rattle.sop_net.specs.Network.{place_named, IsLive, new_node, sources}

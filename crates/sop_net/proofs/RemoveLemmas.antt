@@ -6,7 +6,7 @@ use Rattle.std.proofs.lemmas.Bool.{eqb-true, eqb-false, ne_eqb, and_parts, or_pa
 use Rattle.std.proofs.lemmas.List.Edits.{length-remove}
 use Rattle.std.proofs.lemmas.List.Elements.{All-map, All-weaker, All-take, All-drop, All-append}
 use Rattle.std.proofs.lemmas.List.Quantifiers.{all_pairs_remove}
-use Rattle.sop_model.specs.Geometry.{are_distinct}
+use Rattle.sop_model.specs.Names.{are_distinct}
 use Rattle.sop_net.specs.declared.node.Node.{Node}
 use Rattle.sop_net.specs.Network.{node_of, IsLive, IsNodeOf, wired, wires_of, sources}
 use Rattle.sop_net.specs.Order.{In, IsOrdered, IsOrder, IsKept}

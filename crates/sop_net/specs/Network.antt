@@ -5,7 +5,7 @@
 -- it goes into, and names its source by the source's number.
 use Rattle.std.specs.Prelude.{◌≡◌, ℕ, ◌<◌, ◌≤◌, ◌==◌, IsTrue, zero, suc, ⊤, Contains, List, [], ◌∷◌, length, All, Option, None, Some, find, position, slice_get, replicate, option_map, bytes_eq, is_some, unsigned_abs, map, AllPairs}
 use Rattle.std.specs.Option.{option_and_then}
-use Rattle.sop_model.specs.Geometry.{is_name, are_distinct}
+use Rattle.sop_model.specs.Names.{is_name, are_distinct}
 use Rattle.sop_net.specs.declared.kind.NodeType.{NodeType}
 use Rattle.sop_net.specs.declared.kind.NodeType.TheVariants as type
 use Rattle.sop_net.specs.declared.node.Node.{Node}

@@ -2,7 +2,7 @@
 -- refusal in the order that its rule names.
 use Rattle.std.specs.Prelude.{ℕ, ◌+◌, ◌-◌, ◌*◌, Bool, ◌&&◌, ◌||◌, not, nat_le, nat_lt, ◌==◌, if◌then◌else◌, List, [], ◌∷◌, ◌++◌, length, map, remove, Option, None, Some, Result, Ok, Err, find, position, is_some, slice_get, slice_set, bytes_eq}
 use Rattle.std.specs.Char.{is_ascii_digit}
-use Rattle.sop_model.specs.Geometry.{is_name}
+use Rattle.sop_model.specs.Names.{is_name}
 use Rattle.sop_net.specs.declared.kind.NodeType.{NodeType}
 use Rattle.sop_net.specs.declared.node.Node.{Node}
 use Rattle.sop_net.specs.declared.net_end.NetEnd.{NetEnd}

@@ -1,7 +1,7 @@
 // Names of nodes.
 ghost use Rattle.std.specs.Prelude.{◌≡◌};
 ghost use Rattle.std.specs.List.{list_all};
-ghost use Rattle.sop_model.specs.Geometry.{is_name, continues_name};
+ghost use Rattle.sop_model.specs.Names.{is_name, continues_name};
 
 /// Whether a text is a letter or `_`, then letters, digits or `_`, 1 to 64 bytes.
 pub fn is_name(text: &[u8]) -> bool

@@ -3,7 +3,7 @@ ghost use Rattle.std.specs.Prelude.{◌≡◌, ◌≢◌, ◌<◌, ◌≤◌, �
 ghost use Rattle.sop_net.specs.Network.{empty_network, node_of, number_named, place_of, place_named, IsLive, IsNetwork, IsNodeOf, wire_at, wires_of, sources, used_sources, used_wires, switch_input};
 ghost use Rattle.sop_net.specs.Graph.{Within, Reaches, searched};
 ghost use Rattle.sop_net.specs.Steps.{added_node, with_node, set_node, wired_node, removed_node, unwired};
-ghost use Rattle.sop_model.specs.Geometry.{is_name};
+ghost use Rattle.sop_model.specs.Names.{is_name};
 ghost use Rattle.sop_net.specs.Needs.{needed};
 
 use crate::edit::{staged, staged_pairs};

@@ -9,7 +9,8 @@ use Rattle.std.proofs.lemmas.List.Sums.{position_or_len_is}
 use Rattle.std.proofs.lemmas.Bool.Decides.{nat_tests}
 use Rattle.sop_model.specs.declared.class.Class.{Class}
 use Rattle.sop_model.specs.declared.geo.Geo.{Geo}
-use Rattle.sop_model.specs.Geometry.{heads_of, starts_name, continues_name, is_name}
+use Rattle.sop_model.specs.Names.{starts_name, continues_name, is_name}
+use Rattle.sop_model.specs.Geometry.{heads_of}
 use Rattle.sop_pattern.specs.declared.word.Atom.{Atom}
 use Rattle.sop_pattern.specs.declared.word.Atom.TheVariants.{Group}
 use Rattle.sop_pattern.specs.Words.{is_wild_byte}

@@ -6,7 +6,8 @@ use Rattle.std.proofs.lemmas.Bool.{and_parts, and_from, eqb-true}
 use Rattle.std.proofs.lemmas.List.{drop_all}
 use Rattle.std.proofs.lemmas.List.Splits.{length-slice_split}
 use Rattle.std.proofs.lemmas.List.Sums.{count_by-le-length}
-use Rattle.sop_model.specs.Geometry.{is_digit_byte, is_name}
+use Rattle.std.specs.Char.{is_ascii_digit}
+use Rattle.sop_model.specs.Names.{is_name}
 use Rattle.sop_pattern.specs.declared.word.Word.{Word}
 use Rattle.sop_pattern.specs.declared.word.Atom.{Atom}
 use Rattle.sop_pattern.specs.declared.word.Atom.TheVariants.{Number, Range, Step, Cycle, All, Group, Groups}
@@ -72,7 +73,7 @@ atom_period : (text : List ℕ) (x : Atom) → atom_of text ≡ Some x → has_p
 atom_period [] x e = cc
 atom_period (b ∷ rest) x e =
     let text = b ∷ rest in
-    either_period (is_digit_byte b) (numbers_of (number_in (before 45 text)) (behind 45 text)) (named_atom text) x (numbers_period (number_in (before 45 text)) (behind 45 text) x) (named_period text x) e
+    either_period (is_ascii_digit b) (numbers_of (number_in (before 45 text)) (behind 45 text)) (named_atom text) x (numbers_period (number_in (before 45 text)) (behind 45 text) x) (named_period text x) e
 
 effect_period : (effect : Effect) (o : Option Atom) (w : Word) → ((x : Atom) → o ≡ Some x → has_period x ≡ true) → with_effect effect o ≡ Some w → has_period w.atom ≡ true
 effect_period effect None w h e = cc

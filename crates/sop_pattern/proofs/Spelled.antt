@@ -6,7 +6,8 @@ use Rattle.std.specs.Char.{is_ascii_digit}
 use Rattle.std.proofs.lemmas.Bool.{and_parts, and_from, lt-ltb, le-ltb, ltb-true, cases_Bool, false_from_ne_true}
 use Rattle.std.proofs.lemmas.Bool.Decides.{nat_tests}
 use Rattle.std.proofs.lemmas.Slice.Eq.{bytes_eq-Decides}
-use Rattle.sop_model.specs.Geometry.{is_digit_byte, starts_name, continues_name, is_name}
+use Rattle.std.specs.Char.{is_ascii_digit}
+use Rattle.sop_model.specs.Names.{starts_name, continues_name, is_name}
 use Rattle.sop_pattern.specs.declared.word.Atom.{Atom}
 use Rattle.sop_pattern.specs.declared.word.Atom.TheVariants.{Number, Range, Step, Cycle, All, Group, Groups}
 use Rattle.sop_pattern.specs.Words.{atom_of, named_atom, numbers_of, range_of, step_of, cycle_of, number_in, before, behind, is_wild, is_wild_byte}
@@ -85,9 +86,9 @@ module _ (word : List ℕ) (atom : Atom) where
 
 pub atom_is_spelled : (word : List ℕ) (atom : Atom) → atom_of word ≡ Some atom → IsAtom word atom
 atom_is_spelled [] atom e = absurd cc
-atom_is_spelled (b ∷ rest) atom e = chosen (is_digit_byte b) refl e
+atom_is_spelled (b ∷ rest) atom e = chosen (is_ascii_digit b) refl e
   where
-    chosen : (d : Bool) → is_digit_byte b ≡ d → (if d then numbers_of (number_in (before 45 (b ∷ rest))) (behind 45 (b ∷ rest)) else named_atom (b ∷ rest)) ≡ Some atom → IsAtom (b ∷ rest) atom
+    chosen : (d : Bool) → is_ascii_digit b ≡ d → (if d then numbers_of (number_in (before 45 (b ∷ rest))) (behind 45 (b ∷ rest)) else named_atom (b ∷ rest)) ≡ Some atom → IsAtom (b ∷ rest) atom
     chosen true is f = numbers_spelled (b ∷ rest) atom (number_in (before 45 (b ∷ rest))) (behind 45 (b ∷ rest)) refl refl f
     chosen false is f = named_spelled (b ∷ rest) atom is f
 
@@ -152,7 +153,7 @@ cycle_read word n m a b is =
     ∙ ap (cycle_of n m a) (number_from is.every b is.every_is) ∙ positive_is b (Cycle n m a b) is.positive
 
 -- names
-no_digit_starts : (b : ℕ) → starts_name b ≡ true → is_digit_byte b ≡ false
+no_digit_starts : (b : ℕ) → starts_name b ≡ true → is_ascii_digit b ≡ false
 no_digit_starts b h = grind (arith, nat_tests)
 
 group_read : (word : List ℕ) → is_name word ≡ true → atom_of word ≡ Some (Group word)

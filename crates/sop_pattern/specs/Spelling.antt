@@ -3,7 +3,8 @@ use Rattle.std.specs.Prelude.{◌≡◌, ◌≢◌, ℕ, ◌<◌, ◌≤◌, Boo
 use Rattle.std.specs.List.{list_all}
 use Rattle.std.specs.Char.{is_ascii_digit}
 use Rattle.sop_fixed.specs.Numerals.{number_of}
-use Rattle.sop_model.specs.Geometry.{is_digit_byte, is_name}
+use Rattle.std.specs.Char.{is_ascii_digit}
+use Rattle.sop_model.specs.Names.{is_name}
 use Rattle.sop_pattern.specs.declared.word.Atom.{Atom}
 use Rattle.sop_pattern.specs.declared.word.Atom.TheVariants.{Number, Range, Step, Cycle, All, Group, Groups}
 use Rattle.sop_pattern.specs.Words.{is_wild}
@@ -49,7 +50,7 @@ pub record IsCycle (word : List ℕ) (n m a b : ℕ) : Type 0 where
 
 abbrev pub begins_with_digit : List ℕ → Bool
 begins_with_digit [] = false
-begins_with_digit (b ∷ text) = is_digit_byte b
+begins_with_digit (b ∷ text) = is_ascii_digit b
 
 -- a word other than `*`, of letters, digits, `_`, `*` and `?`, that has a `*` or `?` and doesn't begin with a digit
 pub record IsWild (word : List ℕ) : Type 0 where

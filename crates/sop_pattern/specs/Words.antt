@@ -6,7 +6,8 @@ use Rattle.std.specs.Prelude.{ℕ, suc, Bool, true, false, if◌then◌else◌, 
 use Rattle.std.specs.List.{slice_split, list_all, before_first, after_first}
 use Rattle.std.specs.Option.{option_map}
 use Rattle.sop_fixed.specs.Numerals.{is_some_digits, number_of}
-use Rattle.sop_model.specs.Geometry.{is_digit_byte, continues_name, is_name}
+use Rattle.std.specs.Char.{is_ascii_digit}
+use Rattle.sop_model.specs.Names.{continues_name, is_name}
 use Rattle.sop_pattern.specs.declared.word.Atom.{Atom}
 use Rattle.sop_pattern.specs.declared.word.Atom.TheVariants.{Number, Range, Step, Cycle, All, Group, Groups}
 use Rattle.sop_pattern.specs.declared.word.Effect.{Effect}
@@ -79,7 +80,7 @@ named_atom word =
 -- A word that begins with a digit is numbers.
 abbrev pub atom_of : List ℕ → Option Atom
 atom_of [] = None
-atom_of (b ∷ rest) = if is_digit_byte b then numbers_of (number_in (before 45 (b ∷ rest))) (behind 45 (b ∷ rest)) else named_atom (b ∷ rest)
+atom_of (b ∷ rest) = if is_ascii_digit b then numbers_of (number_in (before 45 (b ∷ rest))) (behind 45 (b ∷ rest)) else named_atom (b ∷ rest)
 
 abbrev pub with_effect : Effect → Option Atom → Option Word
 with_effect effect atom = option_map (λ a. record { effect = effect; atom = a }) atom

@@ -1,7 +1,7 @@
 // Atoms that are `*`, a name, or a text that stands for names.
 ghost use Rattle.std.specs.Prelude.{◌≡◌, ◌||◌, IfOk, position, true};
 ghost use Rattle.std.specs.List.{list_all};
-ghost use Rattle.sop_model.specs.Geometry.{starts_name, continues_name, is_name};
+ghost use Rattle.sop_model.specs.Names.{starts_name, continues_name, is_name};
 ghost use Rattle.sop_pattern.specs.Words.{is_wild_byte, is_wild, named_atom};
 
 use crate::word::Atom;
