@@ -1,3 +1,4 @@
 mod Examples
 pub mod Appended
-pub mod Names
+pub mod BlankWords
+pub mod TextMaps

@@ -1,5 +1,5 @@
 -- Files in memory, as contracts see them.
-use Rattle.std.specs.Prelude.{ℕ, List, [], map, String, string_bytes, refl}
+use Rattle.std.specs.Prelude.{ℕ, List, [], refl}
 use Rattle.std.specs.FinMap as finite
 use Rattle.std.specs.Coded.{Coded, code_by, coded×, coded_list, coded_ℕ}
 use Rattle.sop_outside.specs.Load.{Names}
@@ -16,10 +16,6 @@ pub record FilesInMemory : Type 0 where
 -- No files, no load that fails, and no load so far.
 abbrev pub no_files : FilesInMemory
 no_files = record { names = finite.empty; failing = []; loads = 0; faults = 0; misses = 0; overs = 0 }
-
--- The map of files from the entries of a map by text.
-abbrev pub names_of : {Y : Type 0} → List (String Y × List ℕ) → Names
-names_of entries = finite.from_entries (map (λ entry. (string_bytes entry.0, entry.1)) entries)
 
 -- How contracts tell such values apart: as the tuples of their fields.
 abbrev pub files_code : Coded FilesInMemory

@@ -1,4 +1,5 @@
-ghost use Rattle.std.specs.Prelude.{◌≡◌, ◌≤◌, None, IfOk, vec_len};
+// The files of the system.
+ghost use Rattle.std.specs.Prelude.{◌≡◌, ◌≢◌, ◌≤◌, Err, None, IfOk, vec_len};
 
 use crate::files::{Files, LoadEnd};
 use crate::load_counts::LoadCounts;
@@ -39,15 +40,6 @@ impl<'a, R: rt::Files> DiskFiles<'a, R> {
     }
 }
 
-/// Reads at most `limit` bytes, and one more where there are more.
-fn read_within<R: Read + Drop>(alloc: Global, reader: R, limit: u64) -> io::Result<Vec<u8>> {
-    let mut bytes = Vec::new(alloc);
-    reader
-        .take(limit.saturating_add(1))
-        .read_to_end(&mut bytes)?;
-    Ok(bytes)
-}
-
 /// The bytes of a file, of which nothing is known but that they are at most `limit`.
 fn load_file<R: rt::Files>(
     system: &R,
@@ -57,15 +49,43 @@ fn load_file<R: rt::Files>(
 ) -> Result<Vec<u8>, LoadEnd>
     ensures { IfOk result (λ bytes. vec_len bytes ≤ limit) }
 {
-    let read = File::open(system, name).and_then(|file| read_within(alloc, file, limit));
-    match read {
-        Ok(bytes) if bytes.len() as u64 <= limit => Ok(bytes),
-        Ok(_) => Err(LoadEnd::TooLong),
+    match File::open(system, name) {
+        Ok(file) => read_file(alloc, file, limit),
         Err(error) => Err(match error.kind() {
             ErrorKind::NotFound => LoadEnd::Missing,
-            ErrorKind::OutOfMemory => LoadEnd::Memory,
-            _ => LoadEnd::Failed,
+            kind => end_of_reading(kind),
         }),
+    }
+}
+
+/// The bytes of a file that was opened, if they are at most `limit`.
+fn read_file<R: Read + Drop>(alloc: Global, file: R, limit: u64) -> Result<Vec<u8>, LoadEnd>
+    ensures short { IfOk result (λ bytes. vec_len bytes ≤ limit) }
+    ensures opened { result ≢ Err LoadEnd.Missing }
+{
+    match read_within(alloc, file, limit) {
+        Ok(bytes) if bytes.len() as u64 <= limit => Ok(bytes),
+        Ok(_) => Err(LoadEnd::TooLong),
+        Err(error) => Err(end_of_reading(error.kind())),
+    }
+}
+
+/// Reads at most `limit` bytes, and one more where there are more.
+fn read_within<R: Read + Drop>(alloc: Global, reader: R, limit: u64) -> io::Result<Vec<u8>> {
+    let mut bytes = Vec::new(alloc);
+    reader
+        .take(limit.saturating_add(1))
+        .read_to_end(&mut bytes)?;
+    Ok(bytes)
+}
+
+/// How a load of a file that is there ends where the system fails so.
+fn end_of_reading(kind: ErrorKind) -> LoadEnd
+    ensures { result ≢ LoadEnd.Missing }
+{
+    match kind {
+        ErrorKind::OutOfMemory => LoadEnd::Memory,
+        _ => LoadEnd::Failed,
     }
 }
 

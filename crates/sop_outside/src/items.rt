@@ -1,7 +1,13 @@
-ghost use Rattle.std.specs.Prelude.{◌≡◌, ◌<◌, [], ◌∷◌, ◌++◌, length, OnOk, IfErr, OnErr, slice_get, Some, option_to_list, ◌↔◌, IsNone, IsTrue};
+// Growing lists.
+ghost use Rattle.std.specs.Prelude.{◌≡◌, ◌<◌, [], ◌∷◌, ◌++◌, length, set, OnOk, IfOk, IfErr, OnErr, slice_get, Some, option_to_list, ◌↔◌, IsNone, IsTrue};
+ghost use Rattle.std.specs.Cmp.Lexicographic.{pointwise, lists_equiv, lists_per};
+ghost use Rattle.std.specs.Hash as fed;
+ghost use Rattle.std.specs.Hash.{items_Alike};
 
 use std::alloc::{AllocError, Global};
+use std::hash::{Hash, Hasher};
 use std::marker::Model;
+use std::mem;
 
 /// A growing list, which contracts see as the list of its items.
 #[derive(Debug, Drop)]
@@ -33,6 +39,14 @@ impl<T> Items<T> {
         }
     }
 
+    /// The list of no items, with room for `count` of them; `Err` for want of memory.
+    pub fn with_capacity(alloc: Global, count: usize) -> Result<Items<T>, AllocError>
+        ensures { IfOk result (λ items. items ≡ []) }
+    {
+        let inner = Vec::with_capacity(alloc, count)?;
+        Ok(Items { inner })
+    }
+
     /// The list of the items of `items`, without taking memory.
     pub fn from_vec(items: Vec<T>) -> Items<T>
         ensures { result ≡ items.items }
@@ -58,6 +72,23 @@ impl<T> Items<T> {
             Ok(()) => Ok(()),
             Err(failed) => Err((failed.value, AllocError)),
         }
+    }
+
+    /// Makes room for `more` items behind those that are there, so that they are appended without taking memory. The
+    /// items stay as they are, also on `Err`, want of memory.
+    pub fn reserve(&mut self, more: usize) -> Result<(), AllocError>
+        ensures { self.new ≡ self.old }
+    {
+        self.inner.reserve(more)
+    }
+
+    /// Puts `item` in the place of the one with the number `i`, from 0, and gives the old one back. It takes no memory.
+    pub fn replace(&mut self, i: usize, item: T) -> T
+        requires { i < length self.old }
+        ensures items { self.new ≡ set self.old i item }
+        ensures taken { slice_get self.old i ≡ Some result }
+    {
+        mem::replace(&mut self.inner[i], item)
     }
 
     /// Takes the last item. It takes no memory.
@@ -106,5 +137,39 @@ impl<T: Drop> Items<T> {
     {
         self.inner.push(item)?;
         Ok(())
+    }
+
+    /// Puts `item` in the place of the one with the number `i`, from 0, which is dropped. It takes no memory.
+    pub fn set(&mut self, i: usize, item: T)
+        requires { i < length self.old }
+        ensures { self.new ≡ set self.old i item }
+    {
+        self.inner[i] = item;
+    }
+}
+
+/// Lists are equal where they are as long, and their items are equal one by one.
+impl<T: PartialEq> PartialEq for Items<T> {
+    ghost eq = { pointwise T.eq };
+
+    ghost laws = { lists_per T.laws };
+
+    fn eq(&self, other: &Items<T>) -> bool {
+        self.inner == other.inner
+    }
+}
+
+impl<T: Eq> Eq for Items<T> {
+    ghost laws = { lists_equiv T.Eq.laws };
+}
+
+/// A list is hashed as a slice of its items.
+impl<T: Hash> Hash for Items<T> {
+    ghost hash_input = { fed.slice T.hash_input };
+
+    ghost respects_eq = { (items_Alike (record { fed = T.respects_eq })).fed };
+
+    fn hash<H: Hasher>(&self, state: &mut H) {
+        self.as_slice().hash(state);
     }
 }

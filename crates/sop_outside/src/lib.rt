@@ -4,6 +4,7 @@
 //! their bytes, as those in memory do, and count what fails.
 #![tactic(auto)]
 
+mod blanks;
 mod disk_files;
 mod failing;
 mod files;
@@ -16,6 +17,7 @@ mod sink;
 mod std_sink;
 mod text;
 
+pub use blanks::{Words, is_blank, next_word, words_of};
 pub use disk_files::DiskFiles;
 pub use files::{Files, LoadEnd};
 pub use gate::{Gate, OpenGate};

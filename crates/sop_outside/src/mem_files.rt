@@ -1,3 +1,4 @@
+// Files in memory.
 ghost use Rattle.std.specs.Prelude.{◌≡◌, ◌≢◌, ◌≤◌, ◌↔◌, [], ◌∷◌, ◌++◌, IfOk, IfSome, OnOk, OnErr, MatchResult, Contains, Some, vec_len};
 ghost use Rattle.std.specs.Option.{option_copied};
 ghost use Rattle.std.specs.FinMap as map;
@@ -29,10 +30,10 @@ impl Model for MemFiles {
 
     ghost coded = { files_code };
 
-    ghost use Rattle.sop_outside.specs.MemFiles.{names_of};
+    ghost use Rattle.sop_outside.specs.TextMaps.{by_bytes};
 
     ghost view = { λ f. record {
-      names = names_of f.files.entries;
+      names = by_bytes f.files.entries;
       failing = f.failing.named;
       loads = f.failing.calls;
       faults = f.counts.faults;

@@ -1,9 +1,13 @@
-ghost use Rattle.std.specs.Prelude.{◌≡◌, IfOk, bytes_eq};
+// Texts.
+ghost use Rattle.std.specs.Prelude.{◌≡◌, IfOk, bytes_eq, string_bytes};
+ghost use Rattle.std.proofs.Common.{ap};
 ghost use Rattle.std.specs.Cmp.{partial_equiv_from_equiv};
-ghost use Rattle.std.specs.Cmp.Lexicographic.{nat_list_eq_equiv};
+ghost use Rattle.std.specs.Cmp.Lexicographic.{bytes_decides, nat_list_eq_equiv};
+ghost use Rattle.std.specs.Hash as fed;
 
 use crate::items::Items;
 use std::alloc::{AllocError, Global};
+use std::hash::{Hash, Hasher};
 use std::marker::Model;
 
 /// A text, which contracts see as the list of its UTF-8 bytes. Two texts are equal where their bytes are.
@@ -33,6 +37,21 @@ impl Text {
         Ok(Text { inner })
     }
 
+    /// The text of `string`, without taking memory.
+    pub fn from_string(string: String) -> Text
+        ensures { result ≡ string_bytes string }
+    {
+        Text { inner: string }
+    }
+
+    /// The text as a `String`, without taking memory.
+    pub fn into_string(self) -> String
+        ensures { string_bytes result ≡ self }
+    {
+        let Text { inner } = self;
+        inner
+    }
+
     /// The text. It takes no memory.
     pub fn as_str(&self) -> &str
         ensures { result.now ≡ self.now }
@@ -53,4 +72,15 @@ impl PartialEq for Text {
 
 impl Eq for Text {
     ghost laws = { nat_list_eq_equiv };
+}
+
+/// A text is hashed as a `str` of its bytes.
+impl Hash for Text {
+    ghost hash_input = { fed.str };
+
+    ghost respects_eq = { λ a b same. ap fed.str ((bytes_decides a b).0 same) };
+
+    fn hash<H: Hasher>(&self, state: &mut H) {
+        self.as_str().hash(state);
+    }
 }
