@@ -1,4 +1,5 @@
 mod Examples
+mod RowExamples
 pub mod VerticesLemmas
 pub mod PlainLemmas
 pub mod PlainMerge

@@ -6,3 +6,6 @@ pub mod Geometry
 pub mod Merge
 pub mod Plain
 pub mod Faults
+pub mod Rows
+pub mod Appending
+pub mod Sweep
