@@ -1,5 +1,5 @@
 -- The first word of a text, and the words behind it.
-use Rattle.std.proofs.Common.{◌≡◌, ℕ, ◌<◌, not, List, [], ◌∷◌, length, take, drop, filter, refl, ap, ◌∙◌, inl, inr, arith, one-add}
+use Rattle.std.proofs.Common.{◌≡◌, ℕ, ◌+◌, ◌<◌, ◌≤◌, not, List, [], ◌∷◌, length, take, drop, filter, refl, ap, ◌∙◌, inl, inr, arith, one-add}
 use Rattle.std.specs.List.{prefix_len, slice_split, onto_first}
 use Rattle.std.proofs.lemmas.Bool.{cases_Bool}
 use Rattle.sop_outside.specs.Blanks.{is_blank, is_filled, words_of, begins_filled}
@@ -46,3 +46,16 @@ pieces_are_words (byte ∷ text) = elim (cases_Bool (is_blank byte)) [
 pub first_word : (text : List ℕ) → 0 < length text → begins_filled text → words_of text ≡ take (word_len text) text ∷ words_of (drop (word_len text) text)
 first_word [] some filled = absurd (omega (arith, some))
 first_word (byte ∷ text) some filled = rw (filled, one-add (word_len text)) (ap (λ pieces. filter is_filled (onto_first byte pieces)) (first_piece text) ∙ ap (λ rest. (byte ∷ take (word_len text) text) ∷ rest) (pieces_are_words text))
+
+one_more : (byte : ℕ) (pieces : List (List ℕ)) → length (filter is_filled (onto_first byte pieces)) ≤ 1 + length (filter is_filled pieces)
+one_more byte [] = omega arith
+one_more byte ([] ∷ pieces) = omega arith
+one_more byte ((first ∷ piece) ∷ pieces) = omega arith
+
+-- each word takes at least one byte
+pub words_are_few : (text : List ℕ) → length (words_of text) ≤ length text
+words_are_few [] = omega arith
+words_are_few (byte ∷ text) = elim (cases_Bool (is_blank byte)) [
+  | inl blank ↦ rw blank (omega (arith, words_are_few text))
+  | inr other ↦ rw other (omega (arith, words_are_few text, one_more byte (slice_split is_blank text)))
+]

@@ -1,5 +1,5 @@
 // The words of a text, between blanks.
-ghost use Rattle.std.specs.Prelude.{◌≡◌, ◌∷◌, [], ◌<◌, ◌≤◌, not, length, IfSome, IfNone};
+ghost use Rattle.std.specs.Prelude.{◌≡◌, ◌∷◌, [], ◌^◌, ◌<◌, ◌≤◌, not, length, IfSome, IfNone};
 ghost use Rattle.std.specs.List.{prefix_len};
 ghost use Rattle.std.specs.Iterator.{YieldsFirstRef, item_count};
 ghost use Rattle.sop_outside.specs.Blanks.{is_blank, words_of, begins_filled};
@@ -23,8 +23,11 @@ impl<'a> Model for Words<'a> {
 }
 
 /// The words of `text`.
+#[tactic(auto, using(crate::proofs::BlankWords::words_are_few))]
 pub fn words_of(text: &[u8]) -> Words<'_>
-    ensures { result ≡ words_of text.now }
+    ensures value { result ≡ words_of text.now }
+    ensures few { length result ≤ length text.now }
+    ensures fits { length result < 2 ^ 64 }
 {
     Words { rest: text }
 }
