@@ -36,6 +36,11 @@ def merged(*meshes):
     return points, faces
 
 
+def triangle(x, z):
+    """A triangle of unit sides along x and y."""
+    return [(x, 0, z), (x + UNIT, 0, z), (x, UNIT, z)], [[1, 2, 3]]
+
+
 def box(low, high):
     """Six quads between two opposite corners."""
     corners = [(x, y, z) for y in (low[1], high[1]) for z in (low[2], high[2]) for x in (low[0], high[0])]
@@ -94,6 +99,12 @@ def point(*texts):
 def made():
     """All files, by their path below this folder."""
     files = {}
+
+    left = triangle(0, 0)
+    right = triangle(2 * UNIT, UNIT // 2)
+    files["first/left.obj"] = obj(left)
+    files["first/right side.obj"] = obj(right, numeral=lambda number: f"{number / UNIT:.2f}")
+    files["first/expected.obj"] = obj(merged(left, right))
 
     house = box((0, 0, 0), (2 * UNIT, 1_500_000, 3 * UNIT))
     top = roof((-250_000, 1_500_000, -250_000), (2_250_000, 2_750_000, 3_250_000))
