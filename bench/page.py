@@ -3,8 +3,10 @@ import datetime
 import os
 import platform
 import re
+import textwrap
 
 TOP = os.path.dirname(os.path.dirname(os.path.realpath(__file__)))
+WIDTH = 100
 TITLE = "# Measurements\n\nThese are measurements. No proof speaks of time or of how much memory a run takes.\n"
 
 
@@ -29,6 +31,7 @@ def line(cells):
 def put(heading, text, lines):
     """Puts the part of this heading, its text and its table into docs/BENCH.md, and keeps the other parts."""
     today = datetime.date.today().isoformat()
+    text = textwrap.fill(text, WIDTH, break_long_words=False, break_on_hyphens=False)
     part = f"## {heading}\n\n{text}\n\nMeasured on {today}, {processor()}.\n\n" + "\n".join(lines) + "\n"
     path = f"{TOP}/docs/BENCH.md"
     old = ""

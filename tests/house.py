@@ -3,6 +3,7 @@ import os
 import re
 import subprocess
 
+WIDTH = 100
 CODE = (".rt", ".antt")
 PROSE = (".md", ".txt", ".cmd", ".edit", ".py", ".sh", ".c", "")
 COMMENT = {".rt": "//", ".antt": "--"}
@@ -77,6 +78,11 @@ def leaves_nothing_undone(top):
     return few([place for place, _, line in lines_of(top, committed(top)) if UNDONE.search(line)])
 
 
+def wraps_documents(top):
+    documents = [name for name in committed(top) if name.endswith(".md")]
+    return few([place for place, _, line in lines_of(top, documents) if len(line) > WIDTH])
+
+
 def keeps_files_short(top):
     names = [name for name in committed(top) if name.endswith(CODE)]
     counts = {name: sum(1 for _ in lines_of(top, [name])) for name in names}
@@ -94,5 +100,6 @@ def checks(top):
         ("no rule is cited by the label of a paper", stands_alone),
         ("nothing is left undone", leaves_nothing_undone),
         ("no file of code has more than 800 lines", keeps_files_short),
+        ("no line of a document has more than 100 columns", wraps_documents),
     ]:
         yield name, lambda check=check: check(top)
