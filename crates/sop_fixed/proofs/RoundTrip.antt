@@ -14,7 +14,8 @@ use Rattle.std.specs.Char.{is_ascii_digit}
 use Rattle.sop_fixed.specs.Numbers.{signed, is_negative, nearest, largest_size}
 use Rattle.sop_fixed.specs.Numerals.{number_of, is_sign, is_point, is_exponent_mark, is_some_digits, has_minus, after_sign, whole_of, fraction_of, in_range, value_of, mantissa_of, exponent_of, has_exponent, six_digits, is_zero_digit, without_last_zeros, fraction_text, sign_text, decimal_of}
 use Rattle.sop_fixed.specs.declared.fault.NumeralFault.TheVariants.{OutOfRange}
-use Rattle.sop_fixed.proofs.Rounding.{number_of-append, nearest_whole}
+use Rattle.sop_fixed.proofs.NumberOf.{number_of-append}
+use Rattle.sop_fixed.proofs.Rounding.{nearest_whole}
 use Rattle.sop_fixed.proofs.Reading.{value_of_parts}
 
 own : IsNumeralModel (λ ds. list_all is_ascii_digit ds ≡ true) number_of

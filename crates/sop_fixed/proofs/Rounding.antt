@@ -1,5 +1,5 @@
 -- Digits times powers of ten, rounded: the first digit that is cut decides, and a cap keeps what lies below it.
-use Rattle.std.proofs.Common.{◌≡◌, ℕ, ◌+◌, ◌-◌, ◌*◌, ◌/◌, ◌^◌, ◌≤◌, ◌<◌, List, [], ◌∷◌, ◌++◌, length, length-append, take, drop, refl, ap, sym, ◌∙◌, subst, arith, Bool, true, ◌&&◌, suc}
+use Rattle.std.proofs.Common.{◌≡◌, ℕ, ◌+◌, ◌-◌, ◌*◌, ◌/◌, ◌^◌, ◌≤◌, ◌<◌, List, ◌∷◌, ◌++◌, length, take, drop, refl, ap, sym, ◌∙◌, subst, arith, true, ◌&&◌, suc}
 use Rattle.std.proofs.lemmas.Nat.{pow-add, div-mul-add}
 use Rattle.std.proofs.lemmas.Grind.{common_steps}
 use Rattle.std.proofs.Math.Nat.{one-le-pow, pow-succ', mul-le-mul_right, mul-le-mul_left, mul-div-mul_right}
@@ -13,19 +13,11 @@ use Rattle.std.proofs.Math.Seq.{take-append-add}
 use Rattle.std.specs.Char.{is_ascii_digit}
 use Rattle.sop_fixed.specs.Numbers.{nearest}
 use Rattle.sop_fixed.specs.Numerals.{number_of}
+use Rattle.sop_fixed.proofs.NumberOf.{digit_below, number_below, number_of-append}
 
 -- what the first digit that is cut adds
 abbrev pub round_up : ℕ → ℕ
 round_up d = if nat_le 5 (d - 48) then 1 else 0
-
--- what two runs of digits say together
-pub number_of-append : (xs ys : List ℕ) → number_of (xs ++ ys) ≡ number_of xs * 10 ^ length ys + number_of ys
-number_of-append [] ys = omega arith
-number_of-append (x ∷ xs) ys =
-    let ih : number_of (xs ++ ys) ≡ number_of xs * 10 ^ length ys + number_of ys = number_of-append xs ys in
-    let p : 10 ^ length (xs ++ ys) ≡ 10 ^ length xs * 10 ^ length ys = ap (λ n. 10 ^ n) (length-append xs ys) ∙ pow-add 10 (length xs) (length ys) in
-    let q : (x - 48) * 10 ^ length (xs ++ ys) ≡ (x - 48) * (10 ^ length xs * 10 ^ length ys) = ap (λ n. (x - 48) * n) p in
-    omega (arith, ih, q)
 
 -- below a half
 pub half_down : (q r p : ℕ) → 2 * r < p → nearest (q * p + r) p ≡ q
@@ -52,18 +44,6 @@ first_digit d r p h l = let m : d * p ≤ 4 * p = mul-le-mul_right p l in omega 
 
 pub first_digit_up : (d r p : ℕ) → 5 ≤ d → 10 * p ≤ 2 * (d * p + r)
 first_digit_up d r p l = let m : 5 * p ≤ d * p = mul-le-mul_right p l in omega (arith, m)
-
-digit_below : (b : ℕ) (rest : Bool) → is_ascii_digit b && rest ≡ true → (b - 48 ≤ 9) × (rest ≡ true)
-digit_below b rest h = grind (arith, common_steps)
-
-pub number_below : (digits : List ℕ) → list_all is_ascii_digit digits ≡ true → number_of digits < 10 ^ length digits
-number_below [] h = omega arith
-number_below (b ∷ digits) h =
-    let first = digit_below b (list_all is_ascii_digit digits) h in
-    let rest : number_of digits < 10 ^ length digits = number_below digits first.1 in
-    let most : (b - 48) * 10 ^ length digits ≤ 9 * 10 ^ length digits = mul-le-mul_right (10 ^ length digits) first.0 in
-    let e : 10 ^ length (b ∷ digits) ≡ 10 * 10 ^ length digits = pow-succ' 10 (length digits) in
-    omega (arith, most, rest, e)
 
 -- q before a first digit d and further digits
 pub cut_at_digit : (q d : ℕ) (rest : List ℕ) → is_ascii_digit d && list_all is_ascii_digit rest ≡ true → nearest (q * 10 ^ length (d ∷ rest) + number_of (d ∷ rest)) (10 ^ length (d ∷ rest)) ≡ q + round_up d

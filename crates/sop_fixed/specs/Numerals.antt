@@ -1,8 +1,8 @@
 -- Numerals: the number that a text says, and the text that a number prints as.
-use Rattle.std.specs.Prelude.{ℕ, ◌+◌, ◌-◌, ◌*◌, ◌/◌, ◌%◌, ◌^◌, Bool, true, false, if◌then◌else◌, ◌&&◌, ◌||◌, not, nat_lt, ◌==◌, List, [], ◌∷◌, ◌++◌, length, take, replicate, ℤ, unsigned_abs, Result, Ok, Err, is_some, position, decimal}
+use Rattle.std.specs.Prelude.{ℕ, ◌+◌, ◌-◌, ◌*◌, ◌/◌, ◌%◌, ◌^◌, Bool, true, false, if◌then◌else◌, ◌&&◌, ◌||◌, not, nat_le, nat_lt, ◌==◌, List, [], ◌∷◌, ◌++◌, length, take, replicate, ℤ, unsigned_abs, Option, Some, None, Result, Ok, Err, is_some, position, decimal}
 use Rattle.std.specs.List.{list_all, before_first, after_first, suffix_len}
 use Rattle.std.specs.Char.{is_ascii_digit}
-use Rattle.sop_fixed.specs.Numbers.{signed, is_negative, is_real, nearest}
+use Rattle.sop_fixed.specs.Numbers.{signed, is_negative, is_real, is_int, nearest}
 use Rattle.sop_fixed.specs.declared.fault.NumeralFault.{NumeralFault}
 use Rattle.sop_fixed.specs.declared.fault.NumeralFault.TheVariants.{NotNumeral, OutOfRange}
 
@@ -25,13 +25,20 @@ is_point b = b == 46
 abbrev pub is_exponent_mark : ℕ → Bool
 is_exponent_mark b = (b == 101) || (b == 69)
 
+abbrev pub are_digits : List ℕ → Bool
+are_digits text = list_all is_ascii_digit text
+
 abbrev pub is_some_digits : List ℕ → Bool
-is_some_digits text = nat_lt 0 (length text) && list_all is_ascii_digit text
+is_some_digits text = nat_lt 0 (length text) && are_digits text
 
 -- The sum of the digits, each times its power of ten.
 abbrev pub number_of : List ℕ → ℕ
 number_of [] = 0
 number_of (digit ∷ digits) = (digit - 48) * 10 ^ length digits + number_of digits
+
+-- The number that 1 to `most` digits say, where a text is that.
+abbrev pub number_in : ℕ → List ℕ → Option ℕ
+number_in most text = if is_some_digits text && nat_le (length text) most then Some (number_of text) else None
 
 -- A text is a sign or none, a mantissa, and an exponent behind its mark, or none.
 abbrev pub mantissa_of : List ℕ → List ℕ
@@ -80,6 +87,18 @@ in_range x = if is_real x then Ok x else Err OutOfRange
 -- The Real that a text says. A numeral is in range by its rounded number.
 abbrev pub value_of : List ℕ → Result ℤ NumeralFault
 value_of text = if is_numeral text then in_range (rounded_of text) else Err NotNumeral
+
+-- The Int that a text says: `-` or nothing, then digits, at least one.
+abbrev pub after_minus : List ℕ → List ℕ
+after_minus [] = []
+after_minus (b ∷ text) = if b == 45 then text else b ∷ text
+
+abbrev pub int_in_range : ℤ → Result ℤ NumeralFault
+int_in_range n = if is_int n then Ok n else Err OutOfRange
+
+abbrev pub whole_number_of : List ℕ → Result ℤ NumeralFault
+whole_number_of text =
+    if is_some_digits (after_minus text) then int_in_range (signed (has_minus text) (number_of (after_minus text))) else Err NotNumeral
 
 -- The six digits of so many millionths, fewer than a million.
 abbrev pub six_digits : ℕ → List ℕ

@@ -1,15 +1,48 @@
-// Digits times powers of ten, rounded, of any length, in one pass and without growing past a cap.
-ghost use Rattle.std.specs.Prelude.{◌≡◌, ◌+◌, ◌*◌, ◌^◌, ◌<◌, ◌≤◌, ◌++◌, ◌-◌, length, min, take, nat_le, if◌then◌else◌, IsTrue, slice_index};
-ghost use Rattle.std.specs.List.{list_all};
-ghost use Rattle.std.specs.Char.{is_ascii_digit};
+//! Digits: the numbers that they say, alone and times powers of ten.
+ghost use Rattle.std.specs.Prelude.{◌≡◌, ◌+◌, ◌*◌, ◌^◌, ◌<◌, ◌≤◌, ◌++◌, ◌-◌, length, min, take, nat_le, if◌then◌else◌, ◌&&◌, IfSome, IsTrue, slice_index};
 ghost use Rattle.sop_fixed.specs.Numbers.{nearest};
-ghost use Rattle.sop_fixed.specs.Numerals.{number_of};
+ghost use Rattle.sop_fixed.specs.Numerals.{are_digits, is_some_digits, number_in, number_of};
 
-/// Above the size of each number.
-pub const SIZE_CAP: u128 = 10_000_000_000_000_000;
+/// The most digits whose number surely fits 64 bits.
+pub const MOST_DIGITS: usize = 19;
+
+/// Above the size of each Real.
+pub(crate) const SIZE_CAP: u128 = 10_000_000_000_000_000;
+
+/// Whether each byte is a digit.
+pub fn are_digits(text: &[u8]) -> bool
+    ensures { result ≡ are_digits text.now }
+{
+    text.iter().all(|byte| byte.is_ascii_digit())
+}
+
+/// The number that digits say, as many as there are, or `cap` where that is less. The time is linear in the digits.
+pub fn read_digits(digits: &[u8], cap: u64) -> u64
+    ensures { result ≡ min (number_of digits.now) cap }
+{
+    number_within(0, digits, u128::from(cap)) as u64
+}
+
+/// The number that 1 to `most` digits say, where `text` is such; `most` is at most 19.
+pub fn read_number(text: &[u8], most: usize) -> Option<u64>
+    requires { most ≤ MOST_DIGITS }
+    ensures value { result ≡ number_in most text.now }
+    ensures below { IfSome result (λ n. n < 10 ^ most) }
+{
+    if !are_few_digits(text, most) {
+        return None;
+    }
+    Some(read_digits(text, u64::MAX))
+}
+
+fn are_few_digits(text: &[u8], most: usize) -> bool
+    ensures { result ≡ (is_some_digits text.now && nat_le (length text.now) most) }
+{
+    !text.is_empty() && are_digits(text) && text.len() <= most
+}
 
 /// The number that the digits go on from `start`, or the cap where it is more.
-pub fn number_within(start: u128, digits: &[u8], cap: u128) -> u128
+pub(crate) fn number_within(start: u128, digits: &[u8], cap: u128) -> u128
     requires start { start ≤ cap }
     requires cap { cap ≤ 1000000000000000000000000000000000000 }
     ensures { result ≡ min (start * 10 ^ length digits.now + number_of digits.now) cap }
@@ -74,8 +107,8 @@ fn round_up(digit: u8) -> u128
 }
 
 /// The digits of both parts times 10 ^ up, over 10 ^ down, to the nearest, or the cap where it is more.
-pub fn scaled(whole: &[u8], fraction: &[u8], up: u128, down: u128) -> u128
-    requires digits { IsTrue (list_all is_ascii_digit (whole.now ++ fraction.now)) }
+pub(crate) fn scaled(whole: &[u8], fraction: &[u8], up: u128, down: u128) -> u128
+    requires digits { IsTrue (are_digits (whole.now ++ fraction.now)) }
     ensures { result ≡ min (nearest (number_of (whole.now ++ fraction.now) * 10 ^ up) (10 ^ down)) SIZE_CAP }
 {
     if down <= up {
@@ -90,7 +123,7 @@ pub fn scaled(whole: &[u8], fraction: &[u8], up: u128, down: u128) -> u128
 
 /// The digits of both parts over 10 ^ by, to the nearest, or the cap where it is more.
 fn cut(whole: &[u8], fraction: &[u8], by: u128) -> u128
-    requires digits { IsTrue (list_all is_ascii_digit (whole.now ++ fraction.now)) }
+    requires digits { IsTrue (are_digits (whole.now ++ fraction.now)) }
     requires some { 0 < by }
     ensures { result ≡ min (nearest (number_of (whole.now ++ fraction.now)) (10 ^ by)) SIZE_CAP }
 {

@@ -14,6 +14,7 @@ pub enum NumFault {
 pub enum NumeralFault {
     /// The text hasn't the form of a numeral.
     NotNumeral,
-    /// The text is a numeral whose rounded number is no [`Real`](crate::real::Real).
+    /// The text says a number outside the type's range: of a numeral the rounded number is no
+    /// [`Real`](crate::real::Real), of a whole number it is no [`Int`](crate::int::Int).
     OutOfRange,
 }

@@ -7,12 +7,17 @@ use crate::fault::NumFault;
 use crate::real::{Real, UNIT};
 use std::marker::Model;
 
-const SMALLEST: i64 = -2_147_483_648;
+/// The smallest Int.
+pub const SMALLEST_INT: i64 = -2_147_483_648;
 
-const LARGEST: i64 = 2_147_483_647;
+/// The largest Int.
+pub const LARGEST_INT: i64 = 2_147_483_647;
+
+/// Above the size of each Int.
+pub(crate) const SIZE_CAP: u64 = 2_147_483_649;
 
 /// A whole number from -2,147,483,648 to 2,147,483,647.
-#[derive(Clone, Copy, Debug, PartialEq, Eq, PartialOrd, Ord)]
+#[derive(Clone, Copy, Debug, PartialEq, Eq, PartialOrd, Ord, Hash)]
 pub struct Int {
     number: i64,
 }
@@ -35,7 +40,7 @@ impl Int {
     pub fn of(n: i64) -> Result<Int, NumFault>
         ensures { result ≡ int_of n }
     {
-        if n < SMALLEST || n > LARGEST {
+        if n < SMALLEST_INT || n > LARGEST_INT {
             return Err(NumFault::Range);
         }
         Ok(Int { number: n })

@@ -5,7 +5,7 @@ ghost use Rattle.std.specs.Char.{is_ascii_digit};
 ghost use Rattle.sop_fixed.specs.Numbers.{signed};
 ghost use Rattle.sop_fixed.specs.Numerals.{has_minus, after_sign, whole_of, fraction_of, is_some_digits, is_point, is_exponent_mark, places_up, places_down, in_range, value_of, decimal_of, sign_text, six_digits, without_last_zeros, fraction_text};
 
-use crate::digits::{number_within, scaled};
+use crate::digits::{are_digits, number_within, scaled};
 use crate::fault::NumeralFault;
 use crate::real::Real;
 use itoa::{Buffer, write_digits};
@@ -85,7 +85,7 @@ fn is_mantissa(whole: &[u8], fraction: &[u8]) -> bool
     ensures value { result ≡ is_some_digits (whole.now ++ fraction.now) }
     ensures bound { length whole.now + length fraction.now < 2 ^ 64 }
 {
-    whole.len() + fraction.len() > 0 && all_digits(whole) && all_digits(fraction)
+    whole.len() + fraction.len() > 0 && are_digits(whole) && are_digits(fraction)
 }
 
 /// Whether a numeral may have this exponent behind its mark, or no mark.
@@ -93,13 +93,7 @@ fn is_exponent(is_marked: bool, exponent: &[u8]) -> bool
     ensures { result ≡ (not is_marked || is_some_digits (after_sign exponent.now)) }
 {
     let (_, digits) = split_sign(exponent);
-    !is_marked || (!digits.is_empty() && all_digits(digits))
-}
-
-fn all_digits(text: &[u8]) -> bool
-    ensures { result ≡ list_all is_ascii_digit text.now }
-{
-    text.iter().all(|b| b.is_ascii_digit())
+    !is_marked || (!digits.is_empty() && are_digits(digits))
 }
 
 /// By how many places an exponent, with its sign, raises a number, and lowers it, each up to `FAR`.

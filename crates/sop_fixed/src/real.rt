@@ -11,13 +11,13 @@ use crate::sizes::{nearest, product, root};
 use std::marker::Model;
 
 /// The greatest size of a number, in millionths.
-const LARGEST_SIZE: u64 = 1_000_000_000_000_000;
+pub const LARGEST_SIZE: u64 = 1_000_000_000_000_000;
 
 /// The millionths of one unit.
-pub(crate) const UNIT: i64 = 1_000_000;
+pub const UNIT: i64 = 1_000_000;
 
 /// A whole number of millionths, at most 10^15 of them in size: from -1,000,000,000 to 1,000,000,000 units.
-#[derive(Clone, Copy, Debug, PartialEq, Eq, PartialOrd, Ord)]
+#[derive(Clone, Copy, Debug, PartialEq, Eq, PartialOrd, Ord, Hash)]
 pub struct Real {
     millionths: i64,
 }

@@ -7,7 +7,7 @@ use crate::real::Real;
 use crate::sizes::root;
 
 /// A place or a direction in space, in millionths along each axis.
-#[derive(Clone, Copy, Debug, PartialEq, Eq)]
+#[derive(Clone, Copy, Debug, PartialEq, Eq, Hash)]
 pub struct Vec3 {
     pub x: Real,
     pub y: Real,

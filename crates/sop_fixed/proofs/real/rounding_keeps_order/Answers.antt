@@ -1,4 +1,3 @@
-use Rattle.std.proofs.Common.{◌≡◌}
 use Rattle.sop_fixed.proofs.Order.{nearest_in_order, rounded_in_order}
 use Rattle.sop_fixed.proofs.real.rounding_keeps_order.Goals as goal
 
