@@ -2,15 +2,16 @@
 use Rattle.std.proofs.Common.{◌≡◌, ◌≢◌, ℕ, zero, suc, ◌+◌, ◌<◌, ◌≤◌, List, [], ◌∷◌, ◌++◌, map, refl, ap, sym, ◌∙◌, subst, arith, inl, inr}
 use Rattle.std.proofs.lemmas.List.{map-append}
 use Rattle.std.proofs.lemmas.Bool.Decides.{nat_tests}
-use Rattle.std.specs.Prelude.{Option, Some, None, IfSome, ◌⊎◌}
-use Rattle.slab.specs.Slab.{Slab, get, Updates}
+use Rattle.std.specs.Prelude.{Option, Some, None, IfSome, ◌⊎◌, if◌then◌else◌, ◌==◌}
+use Rattle.slab.specs.Slab.{Slab, get, Updates, with_value}
 use Rattle.sop_pages.specs.declared.cell.Cell.{Cell}
 use Rattle.sop_pages.specs.declared.page.Page.{Page}
 use Rattle.sop_pages.specs.declared.store.Counted.{Counted}
-use Rattle.sop_pages.specs.Pages.{Held, Store, page_at, cells, count, cells_of, count_of}
+use Rattle.sop_pages.specs.Pages.{Held, Store, page_at, cells, count, cells_of, count_of, live_pages}
+use Rattle.sop_pages.specs.Cells.{IsPage}
 use Rattle.sop_pages.specs.Slots.{store_of, held, AllCounted}
 use Rattle.sop_pages.specs.Moves.{times, Moves}
-use Rattle.sop_pages.proofs.StoreLemmas.{Changes, changes, found, held_at}
+use Rattle.sop_pages.proofs.StoreLemmas.{Changes, changes, found, held_at, wrote, wrote_live}
 
 pub same_or : (x y : ℕ) → (x ≡ y) ⊎ (x ≢ y)
 same_or zero zero = inl refl
@@ -61,10 +62,31 @@ pub remove_moves : (old new : Store) (id : ℕ) → count old id ≡ 1 → Chang
 remove_moves old new id once c = let a = times_here id id refl in
     one_change old new id None (id ∷ []) [] c (omega arith) (λ h. absurd (omega arith)) (λ x n. times_else x id n)
 
--- other cells under the one place
-pub write_moves : (old new : Store) (id : ℕ) (xs : List Cell) (n : ℕ) → count old id ≡ 1 → n ≡ count old id → Changes old new id (Some (xs, n)) → Moves old new (id ∷ []) (id ∷ [])
-write_moves old new id xs n once same c = let a = times_here id id refl in
-    one_change old new id (Some (xs, n)) (id ∷ []) (id ∷ []) c (omega arith) (λ h. absurd (omega arith)) (λ x n. refl)
+-- the one place keeps its id and has other cells
+pub record IsChanged (old new : Store) (id : ℕ) (now : List Cell) : Type 0 where
+  pub moves : Moves old new (id ∷ []) (id ∷ [])
+  pub here : cells new id ≡ now
+  pub alone : count new id ≡ 1
+  pub pages : live_pages new ≡ live_pages old + (if count old id == 1 then 0 else 1)
+
+no_more : (n : ℕ) → n ≡ 1 → ◌≡◌ {A = ℕ} (if n == 1 then 0 else 1) 0
+no_more n e = grind (arith, nat_tests)
+
+-- a write through `get_mut` at a page of count 1, whose cells become what `f` makes of them
+pub changed_alone : (s : Slab Counted) (old : Store) (key id : ℕ) (c d : Counted) (f : List Cell → List Cell) → store_of s ≡ old → key ≡ id → Some c ≡ get s key → c.count ≡ 1 → d.count ≡ c.count → d.page ≡ f c.page → IsChanged old (store_of (with_value s key d)) id (f (cells old id))
+changed_alone s old key id c d f is same at once kept now =
+    let new = store_of (with_value s key d) in
+    let there : Some (c.page, c.count) ≡ page_at old id = found s old key id (Some c) is same at in
+    let counted : c.count ≡ count old id = ap count_of there in
+    let w : Changes old new id (Some (d.page, d.count)) = wrote s old key id c d is same at in
+    let one : count old id ≡ 1 = sym counted ∙ once in
+    let a = times_here id id refl in
+    record {
+      moves = one_change old new id (Some (d.page, d.count)) (id ∷ []) (id ∷ []) w (omega arith) (λ h. absurd (omega arith)) (λ x n. refl);
+      here = ap cells_of w.here ∙ now ∙ ap (λ (o : Option Held). f (cells_of o)) there;
+      alone = ap count_of w.here ∙ kept ∙ once;
+      pages = let l = wrote_live s old key c d is at in let z = no_more (count old id) one in omega arith;
+    }
 
 -- one step after another
 pub moves_then : (a b c : Store) (g h k l : List ℕ) → Moves a b g k → Moves b c h l → Moves a c (g ++ h) (k ++ l)
@@ -97,9 +119,9 @@ module _ (a s t : Slab Counted) (ids : List ℕ) (blocks : List (List Cell)) (ke
   one : Moves (store_of s) (store_of t) [] (key ∷ [])
   one = put_moves (store_of s) (store_of t) key page (sym (found s (store_of s) key key None refl refl (sym free))) (changes s t (store_of s) key key _ refl refl u)
 
-  pub fill_counted : AllCounted s → AllCounted t
-  fill_counted all id = let P : Option Counted → Type 0 = λ o. IfSome o (λ h. 1 ≤ h.count) in elim (same_or id key) [
-    | inl e ↦ subst P (sym (ap (get t) e ∙ u.changed)) (omega arith)
+  pub fill_counted : IsPage page → AllCounted s → AllCounted t
+  fill_counted whole all id = let P : Option Counted → Type 0 = λ o. IfSome o (λ h. (1 ≤ h.count) × IsPage h.page) in elim (same_or id key) [
+    | inl e ↦ subst P (sym (ap (get t) e ∙ u.changed)) (omega arith, whole)
     | inr n ↦ subst P (sym (u.others id n)) (all id)
   ]
 

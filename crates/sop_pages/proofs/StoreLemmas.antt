@@ -1,11 +1,12 @@
 -- What a step of the slab is for the store that contracts see.
-use Rattle.std.proofs.Common.{◌≡◌, ◌≢◌, ℕ, zero, suc, ◌+◌, List, [], ◌∷◌, refl, ap, sym, ◌∙◌, subst, map}
-use Rattle.std.specs.Prelude.{Option, Some, None, is_some, slice_index_or, slice_set, cond}
+use Rattle.std.proofs.Common.{◌≡◌, ◌≢◌, ℕ, zero, suc, ◌+◌, List, [], ◌∷◌, refl, ap, sym, ◌∙◌, subst, map, arith}
+use Rattle.std.specs.Prelude.{Option, Some, None, is_some, slice_index_or, slice_set, cond, IfSome, ◌≤◌}
 use Rattle.std.proofs.lemmas.List.Recursion.{is_count_by}
 use Rattle.slab.specs.Slab.{Slab, get, slab_len, Updates, with_value}
 use Rattle.sop_pages.specs.declared.store.Counted.{Counted}
-use Rattle.sop_pages.specs.Pages.{Held, Store, page_at, live_pages}
-use Rattle.sop_pages.specs.Slots.{held, store_of}
+use Rattle.sop_pages.specs.Pages.{Held, Store, page_at, live_pages, count_of, cells_of, cells, IsLive}
+use Rattle.sop_pages.specs.Cells.{IsPage}
+use Rattle.sop_pages.specs.Slots.{held, store_of, AllCounted}
 
 -- the page at one id is this now, and every other id has what it had
 pub record Changes (old new : Store) (id : ℕ) (now : Option Held) : Type 0 where
@@ -65,3 +66,13 @@ wrote s store key id c d is same at =
 
 pub wrote_live : (s : Slab Counted) (store : Store) (key : ℕ) (c d : Counted) → store_of s ≡ store → Some c ≡ get s key → live_pages (store_of (with_value s key d)) ≡ live_pages store
 wrote_live s store key c d is at = live_set s.slots key c d at ∙ ap live_pages is
+
+-- what is counted at an id is a page
+held_is_a_page : (o : Option Counted) → IfSome o (λ c. (1 ≤ c.count) × IsPage c.page) → 1 ≤ count_of (held o) → IsPage (cells_of (held o))
+held_is_a_page None all live = absurd (omega arith)
+held_is_a_page (Some c) all live = all.1
+
+pub live_is_a_page : (s : Slab Counted) (store : Store) → store_of s ≡ store → AllCounted s → (id : ℕ) → IsLive store id → IsPage (cells store id)
+live_is_a_page s store is all id live =
+    let P : Option Held → Type 0 = λ o. 1 ≤ count_of o → IsPage (cells_of o) in
+    subst P (sym (held_at s.slots id) ∙ ap (λ (t : Store). page_at t id) is) (held_is_a_page (get s id) (all id)) live

@@ -9,7 +9,7 @@ mod page;
 mod store;
 
 pub use cell::Cell;
-pub use page::{Page, PageList};
+pub use page::{MOST_CELLS, Page, PageList};
 pub use store::{PageId, PageIdList, PageStore};
 
 #[cfg(test)]

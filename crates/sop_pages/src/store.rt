@@ -1,12 +1,13 @@
 //! The store of counted pages.
-ghost use Rattle.std.specs.Prelude.{◌≡◌, ◌∷◌, ◌+◌, ◌^◌, ◌<◌, ◌≤◌, [], ◌==◌, ◌↔◌, if◌then◌else◌, length, map, slice_index_or, slice_set, vec_len, vec_capacity, IfOk, IfErr, OnOk, OnErr, Some, IsTrue};
+ghost use Rattle.std.specs.Prelude.{◌≡◌, ℕ, ◌∷◌, ◌++◌, ◌+◌, ◌^◌, ◌<◌, ◌≤◌, [], ◌==◌, ◌↔◌, if◌then◌else◌, length, map, take, slice_index_or, slice_set, vec_len, vec_capacity, IfOk, IfErr, OnOk, OnErr, Some, IsTrue};
 ghost use Rattle.slab.specs.Slab.{HasRoomFor};
 ghost use Rattle.sop_pages.specs.Pages.{page_at, IsLive, count, cells, live_pages};
 ghost use Rattle.sop_pages.specs.Slots.{store_of, AllCounted};
 ghost use Rattle.sop_pages.specs.Moves.{Moves};
+ghost use Rattle.sop_pages.specs.Cells.{IsPage, with_run};
 
 use crate::cell::Cell;
-use crate::page::{Page, PageList};
+use crate::page::{MOST_CELLS, Page, PageList};
 use slab::Slab;
 use sop_outside::Items;
 use std::alloc::{AllocError, Global};
@@ -143,6 +144,18 @@ impl PageStore {
         held.page.get(i)
     }
 
+    /// The cells of a page, in order.
+    pub fn cells(&self, id: PageId) -> &[Cell]
+        requires { IsLive self.now id }
+        ensures value { result.now ≡ cells self.now id }
+        ensures size { IsPage (cells self.now id) }
+    {
+        let Some(held) = self.pages.get(id.key) else {
+            unreachable!()
+        };
+        held.page.cells()
+    }
+
     /// Makes `cell` the cell with the number `i`, from 0, of the page that one place holds by `id`,
     /// and answers the id by which this place holds it from now on. A page of count 1 is changed in
     /// place, which takes no memory. Otherwise this place gets a changed copy of its own, and the
@@ -157,17 +170,100 @@ impl PageStore {
         ensures pages { OnOk result (live_pages self.new ≡ live_pages self.old + (if count self.old id == 1 then 0 else 1)) }
         ensures err { OnErr result (self.new ≡ self.old) }
     {
-        if self.is_held_once(id) {
-            self.write(id, i, cell);
+        let Some(held) = self.pages.get_mut(id.key) else {
+            unreachable!()
+        };
+        if held.count == 1 {
+            held.page.put(i, cell);
             return Ok(id);
         }
-        let mut page = self.copy(id)?;
+        let mut page = held.page.copy(self.alloc)?;
         page.put(i, cell);
-        let Ok(new) = self.put(page) else {
-            return Err(AllocError);
+        self.part(id, page)
+    }
+
+    /// Makes the cells from number `start` on, counted from 0, those of `run`, as `set` does for one.
+    pub fn set_run(&mut self, id: PageId, start: u32, run: &[Cell]) -> Result<PageId, AllocError>
+        requires live { IsLive self.old id }
+        requires within { start + length run.now ≤ length (cells self.old id) }
+        ensures moves { IfOk result (λ new. Moves self.old self.new (id ∷ []) (new ∷ [])) }
+        ensures cells { IfOk result (λ new. cells self.new new ≡ with_run (cells self.old id) start run.now) }
+        ensures single { count self.old id ≡ 1 → result ≡ Ok id }
+        ensures alone { IfOk result (λ new. count self.new new ≡ 1) }
+        ensures pages { OnOk result (live_pages self.new ≡ live_pages self.old + (if count self.old id == 1 then 0 else 1)) }
+        ensures err { OnErr result (self.new ≡ self.old) }
+    {
+        let Some(held) = self.pages.get_mut(id.key) else {
+            unreachable!()
         };
-        self.lower(id);
-        Ok(new)
+        if held.count == 1 {
+            held.page.put_run(start, run);
+            return Ok(id);
+        }
+        let mut page = held.page.copy(self.alloc)?;
+        page.put_run(start, run);
+        self.part(id, page)
+    }
+
+    /// Sets `more` cells behind the last of the page that one place holds by `id`, where there is room
+    /// for them, and answers the id by which this place holds it from now on. A page of count 1 is
+    /// lengthened in place. Otherwise this place gets a longer copy of its own, and the other places
+    /// keep the old page as it was.
+    pub fn lengthen(&mut self, id: PageId, more: &[Cell]) -> Result<PageId, AllocError>
+        requires live { IsLive self.old id }
+        requires room { length (cells self.old id) + length more.now ≤ MOST_CELLS }
+        ensures moves { IfOk result (λ new. Moves self.old self.new (id ∷ []) (new ∷ [])) }
+        ensures cells { IfOk result (λ new. cells self.new new ≡ cells self.old id ++ more.now) }
+        ensures single { count self.old id ≡ 1 → IfOk result (λ new. new ≡ id) }
+        ensures alone { IfOk result (λ new. count self.new new ≡ 1) }
+        ensures pages { OnOk result (live_pages self.new ≡ live_pages self.old + (if count self.old id == 1 then 0 else 1)) }
+        ensures err { OnErr result (self.new ≡ self.old) }
+    {
+        let Some(held) = self.pages.get_mut(id.key) else {
+            unreachable!()
+        };
+        if held.count == 1 {
+            held.page.lengthen(more)?;
+            return Ok(id);
+        }
+        let page = held.page.longer(self.alloc, more)?;
+        self.part(id, page)
+    }
+
+    /// Cuts the page that one place holds by `id` to its first `len` cells, as `set` changes one.
+    pub fn shorten(&mut self, id: PageId, len: u32) -> Result<PageId, AllocError>
+        requires live { IsLive self.old id }
+        requires some { 1 ≤ len }
+        requires within { len ≤ length (cells self.old id) }
+        ensures moves { IfOk result (λ new. Moves self.old self.new (id ∷ []) (new ∷ [])) }
+        ensures cells { IfOk result (λ new. cells self.new new ≡ take len (cells self.old id)) }
+        ensures single { count self.old id ≡ 1 → result ≡ Ok id }
+        ensures alone { IfOk result (λ new. count self.new new ≡ 1) }
+        ensures pages { OnOk result (live_pages self.new ≡ live_pages self.old + (if count self.old id == 1 then 0 else 1)) }
+        ensures err { OnErr result (self.new ≡ self.old) }
+    {
+        let Some(held) = self.pages.get_mut(id.key) else {
+            unreachable!()
+        };
+        if held.count == 1 {
+            held.page.shorten(len);
+            return Ok(id);
+        }
+        let page = held.page.shorter(self.alloc, len)?;
+        self.part(id, page)
+    }
+
+    /// Takes a page out that one place holds, without a copy. It takes no memory.
+    pub fn take(&mut self, id: PageId) -> Page
+        requires { count self.old id ≡ 1 }
+        ensures cells { result ≡ cells self.old id }
+        ensures moves { Moves self.old self.new (id ∷ []) [] }
+        ensures pages { live_pages self.new + 1 ≡ live_pages self.old }
+    {
+        let Some(held) = self.pages.try_remove(id.key) else {
+            unreachable!()
+        };
+        held.page
     }
 
     /// A page of the same cells, which is not kept in the store.
@@ -181,6 +277,13 @@ impl PageStore {
         held.page.copy(self.alloc)
     }
 
+    /// A law: a live page has 1 to `MOST_CELLS` cells.
+    pub fn each_is_a_page(&self)
+        ensures { (id : ℕ) → IsLive self.now id → IsPage (cells self.now id) }
+    {
+        let _pages = &self.pages;
+    }
+
     fn is_held_once(&self, id: PageId) -> bool
         requires { IsLive self.now id }
         ensures { result ≡ (count self.now id == 1) }
@@ -191,18 +294,20 @@ impl PageStore {
         held.count == 1
     }
 
-    // Changes a cell of a page in place.
-    fn write(&mut self, id: PageId, i: u32, cell: Cell)
-        requires once { count self.old id ≡ 1 }
-        requires within { i < length (cells self.old id) }
-        ensures moves { Moves self.old self.new (id ∷ []) (id ∷ []) }
-        ensures cells { cells self.new id ≡ slice_set (cells self.old id) i cell }
-        ensures pages { live_pages self.new ≡ live_pages self.old }
+    // One place gives up its share of a page and holds this one, which is kept under an id that was not live.
+    fn part(&mut self, id: PageId, page: Page) -> Result<PageId, AllocError>
+        requires { 1 < count self.old id }
+        ensures moves { IfOk result (λ new. Moves self.old self.new (id ∷ []) (new ∷ [])) }
+        ensures cells { IfOk result (λ new. cells self.new new ≡ page) }
+        ensures alone { IfOk result (λ new. count self.new new ≡ 1) }
+        ensures pages { OnOk result (live_pages self.new ≡ live_pages self.old + 1) }
+        ensures err { OnErr result (self.new ≡ self.old) }
     {
-        let Some(held) = self.pages.get_mut(id.key) else {
-            unreachable!()
+        let Ok(new) = self.put(page) else {
+            return Err(AllocError);
         };
-        held.page.put(i, cell);
+        self.lower(id);
+        Ok(new)
     }
 
     // Counts a page one more.
@@ -252,6 +357,7 @@ fn put_reserved(slab: &mut Slab<Counted>, ids: &mut Vec<PageId>, pages: Vec<Page
     ensures live { live_pages (store_of slab.new) ≡ live_pages (store_of slab.old) + length pages.items }
 {
     for page in pages {
+        let _cells = page.cells();
         let key = slab.insert_reserved(Counted { page, count: 1 });
         ids.push_reserved(PageId { key });
     }

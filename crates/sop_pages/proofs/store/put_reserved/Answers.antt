@@ -7,7 +7,7 @@ pub loop-page-preserved : goal.loop-page-preserved
 loop-page-preserved c =
     let more = length-append c.loop-page.yielded (c.in-Some.page ∷ []) in
     let i = c.loop-page.invariant in let e = c.insert_reserved-key.ensures in let p = c.push_reserved.ensures in record {
-      counted = fill_counted c.args.slab.now c.loop-page.slab c.insert_reserved-key.new.self c.loop-page.ids.items c.loop-page.yielded _ c.in-Some.page e.was_vacant e.updates i.moves i.counted;
+      counted = fill_counted c.args.slab.now c.loop-page.slab c.insert_reserved-key.new.self c.loop-page.ids.items c.loop-page.yielded _ c.in-Some.page e.was_vacant e.updates i.moves c.cells-cells.ensures.size i.counted;
       room = let a = i.room in let b = e.len in let d = e.capacity in omega arith;
       ids_room = let a = i.ids_room in let b = p.len in let d = p.capacity in omega arith;
       moves = fill_moves c.args.slab.now c.loop-page.slab c.insert_reserved-key.new.self c.loop-page.ids.items c.loop-page.yielded _ c.in-Some.page e.was_vacant e.updates i.moves _ p.items;
