@@ -5,7 +5,7 @@ use Rattle.std.specs.Str.{is_utf8, chars}
 use lib.Utf8.{encode}
 use Rattle.std.specs.Str.Lossy.{utf8_valid_len}
 use Rattle.sop_net.specs.Network.{empty_network, new_node}
-use Rattle.sop_net.specs.declared.kind.NodeType.TheVariants as type
+use Rattle.sop_net.specs.declared.node_type.NodeType.TheVariants as type
 use Rattle.hscript_text.specs.declared.kind.ScriptKind.{ScriptKind}
 use Rattle.hscript_text.specs.declared.kind.ScriptKind.TheVariants.{BadBytes, Quote, NoVar, LongWord, BadCommand, BadArgs, BadName, NameTaken, NoType, Cycle}
 use Rattle.hscript_text.specs.declared.script.Script.{Script}

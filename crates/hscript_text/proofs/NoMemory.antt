@@ -2,7 +2,7 @@
 use Rattle.std.proofs.Common.{◌≡◌, ℕ, List, [], ◌∷◌, Bool, true, false, cond, not, length}
 use Rattle.std.specs.Prelude.{Option, None, Some, Ok, Err, is_some, find, slice_get, bytes_eq, nat_lt}
 use Rattle.sop_model.specs.Names.{is_name}
-use Rattle.sop_net.specs.declared.kind.NodeType.{NodeType}
+use Rattle.sop_net.specs.declared.node_type.NodeType.{NodeType}
 use Rattle.sop_net.specs.declared.node.Node.{Node}
 use Rattle.sop_net.specs.declared.net_end.NetEnd.{NetEnd}
 use Rattle.sop_net.specs.declared.net_end.NetEnd.TheVariants as end
@@ -24,7 +24,7 @@ spares_ok net e = cc
 
 spares_type : (net : Network) (o : Option NodeType) (name : List ℕ) → Spares (added_of_type net o name)
 spares_type net None name = λ e. cc
-spares_type net (Some kind) name = spares_if (has_no_room net) _ _ (λ e. cc) (λ e. cc)
+spares_type net (Some node_type) name = spares_if (has_no_room net) _ _ (λ e. cc) (λ e. cc)
 
 pub spares_added : (net : Network) (word name : List ℕ) → Spares (added_node net word name)
 spares_added net word name =
@@ -57,17 +57,17 @@ names_first : (o later : Option NetEnd) → Names o → Names later → Names (f
 names_first None later h g = g
 names_first (Some stop) later h g = h
 
-names_pairs : (kind : NodeType) (pairs : List (List ℕ)) → Names (refusal_of_pairs kind pairs)
-names_pairs kind [] = λ e. cc
-names_pairs kind (parm ∷ []) = λ e. cc
-names_pairs kind (parm ∷ value ∷ pairs) = names_first _ _ (names_value (find (λ p. bytes_eq p.name parm) (parms_of kind)) value) (names_pairs kind pairs)
+names_pairs : (node_type : NodeType) (pairs : List (List ℕ)) → Names (refusal_of_pairs node_type pairs)
+names_pairs node_type [] = λ e. cc
+names_pairs node_type (parm ∷ []) = λ e. cc
+names_pairs node_type (parm ∷ value ∷ pairs) = names_first _ _ (names_value (find (λ p. bytes_eq p.name parm) (parms_of node_type)) value) (names_pairs node_type pairs)
 
 spares_refusal : (o : Option NetEnd) (net : Network) → Names o → Spares (unless_refused o net)
 spares_refusal None net h = λ e. cc
 spares_refusal (Some stop) net h = λ e. h (cc)
 
 pub spares_set : (net : Network) (name : List ℕ) (pairs : List (List ℕ)) → Spares (set_node net name pairs)
-spares_set net name pairs = spares_named net name (set_on net pairs) (λ at n. spares_refusal (refusal_of_pairs n.kind pairs) _ (names_pairs n.kind pairs))
+spares_set net name pairs = spares_named net name (set_on net pairs) (λ at n. spares_refusal (refusal_of_pairs n.node_type pairs) _ (names_pairs n.node_type pairs))
 
 spares_into : (net : Network) (at : ℕ) (n : Node) (source : ℕ) (o : Option ℕ) → Spares (wired_into net at n source o)
 spares_into net at n source None = λ e. cc

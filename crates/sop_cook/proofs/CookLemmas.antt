@@ -16,7 +16,7 @@ use Rattle.sop_model.specs.Plain.{IsPlain, plain_append}
 use Rattle.sop_model.proofs.PlainMerge.{merged-push}
 use Rattle.sop_model.proofs.LimitsLemmas.{fits-true}
 use Rattle.sop_net.specs.declared.node.Node.{Node}
-use Rattle.sop_net.specs.declared.kind.NodeType.{NodeType}
+use Rattle.sop_net.specs.declared.node_type.NodeType.{NodeType}
 use Rattle.sop_net.specs.Graph.{Within}
 use Rattle.sop_net.specs.Network.{node_of, wire_at, used_sources}
 use Rattle.sop_cook.specs.declared.cook_end.CookEnd.{CookEnd}
@@ -38,7 +38,7 @@ tells_made x outcome (Err stop.Memory) answer h ok err memory = subst (Tells (at
 
 -- the cook of a node is what its visit tells
 pub told_visit : (files : FileMap) (nodes : List Node) (x : ℕ) (n : Node) → Within (used_sources nodes) (length nodes) x → node_of nodes x ≡ Some n → (answer : Result Geo CookEnd)
-    → Tells (visit_type (cook_of files nodes) files x n n.kind) answer → Tells (cook_of files nodes x) answer
+    → Tells (visit_type (cook_of files nodes) files x n n.node_type) answer → Tells (cook_of files nodes x) answer
 told_visit files nodes x n within found answer h =
     subst (λ outcome. Tells outcome answer) (sym (cook_visits files nodes x within ∙ ap (visit (cook_of files nodes) files x) found)) h
 
@@ -184,5 +184,5 @@ split_at all so_far x is lt here =
     ∙ ap (λ l. so_far ++ l) (drop_more all (length so_far) x lt) ∙ ap (λ y. so_far ++ y ∷ drop (length so_far + 1) all) (sym here)
 
 -- a node of a known type
-pub visit_known : (go : ℕ → Outcome) (files : FileMap) (x : ℕ) (n : Node) (kind : NodeType) (answer : Result Geo CookEnd) → n.kind ≡ kind → Tells (visit_type go files x n kind) answer → Tells (visit_type go files x n n.kind) answer
-visit_known go files x n kind answer is h = subst (λ k. Tells (visit_type go files x n k) answer) (sym is) h
+pub visit_known : (go : ℕ → Outcome) (files : FileMap) (x : ℕ) (n : Node) (node_type : NodeType) (answer : Result Geo CookEnd) → n.node_type ≡ node_type → Tells (visit_type go files x n node_type) answer → Tells (visit_type go files x n n.node_type) answer
+visit_known go files x n node_type answer is h = subst (λ k. Tells (visit_type go files x n k) answer) (sym is) h

@@ -6,8 +6,8 @@ use Rattle.sop_model.specs.declared.fault.Fault.{Fault}
 use Rattle.sop_model.specs.declared.fault.Fault.TheVariants as fault
 use Rattle.sop_net.specs.Graph.{Within}
 use Rattle.sop_net.proofs.UsedLemmas.{first_is, further, wired_at}
-use Rattle.sop_net.specs.declared.kind.NodeType.{NodeType}
-use Rattle.sop_net.specs.declared.kind.NodeType.TheVariants as type
+use Rattle.sop_net.specs.declared.node_type.NodeType.{NodeType}
+use Rattle.sop_net.specs.declared.node_type.NodeType.TheVariants as type
 use Rattle.sop_net.specs.declared.node.Node.{Node}
 use Rattle.sop_net.specs.Network.{node_of, wired, wire_at, parm_at, switch_input, used_wires, wires_used_by, used_sources, IsLive}
 use Rattle.sop_cook.specs.Loads.{FileMap}
@@ -23,8 +23,8 @@ same_given : (f g : ℕ → Outcome) (x input : ℕ) (wire : Option ℕ) → ((s
 same_given f g x input None same = refl
 same_given f g x input (Some source) same = same source refl
 
-same_visit_type : (f g : ℕ → Outcome) (files others : FileMap) (x : ℕ) (n : Node) (kind : NodeType) → (kind ≡ type.File → files (parm_at n.parms 0) ≡ others (parm_at n.parms 0))
-    → ((source : ℕ) → Contains (wired (wires_used_by kind n)) source → f source ≡ g source) → visit_type f files x n kind ≡ visit_type g others x n kind
+same_visit_type : (f g : ℕ → Outcome) (files others : FileMap) (x : ℕ) (n : Node) (node_type : NodeType) → (node_type ≡ type.File → files (parm_at n.parms 0) ≡ others (parm_at n.parms 0))
+    → ((source : ℕ) → Contains (wired (wires_used_by node_type n)) source → f source ≡ g source) → visit_type f files x n node_type ≡ visit_type g others x n node_type
 same_visit_type f g files others x n type.File file same = ap (λ load. at_node x (file_geo load)) (file refl)
 same_visit_type f g files others x n type.Merge file same = ap (λ gs. then_with gs (λ inputs. at_node x (merge_geo inputs))) (same_gathered f g n.wires same)
 same_visit_type f g files others x n type.Null file same = same_given f g x 0 (wire_at n.wires 0) (λ source h. same source (wired_at n.wires 0 source h))
@@ -33,17 +33,17 @@ same_visit_type f g files others x n type.Switch file same =
 same_visit_type f g files others x n other file same = refl
 
 -- a node gives the same where its file and its sources do
-pub same_visit : (f g : ℕ → Outcome) (files others : FileMap) (x : ℕ) (found : Option Node) → ((n : Node) → found ≡ Some n → n.kind ≡ type.File → files (parm_at n.parms 0) ≡ others (parm_at n.parms 0))
+pub same_visit : (f g : ℕ → Outcome) (files others : FileMap) (x : ℕ) (found : Option Node) → ((n : Node) → found ≡ Some n → n.node_type ≡ type.File → files (parm_at n.parms 0) ≡ others (parm_at n.parms 0))
     → ((source : ℕ) → Contains (wired (used_wires found)) source → f source ≡ g source) → visit f files x found ≡ visit g others x found
 same_visit f g files others x None file same = refl
-same_visit f g files others x (Some n) file same = same_visit_type f g files others x n n.kind (file n refl) same
+same_visit f g files others x (Some n) file same = same_visit_type f g files others x n n.node_type (file n refl) same
 
 -- where each way up ends within the bound, one more changes nothing
 one_more : (files : FileMap) (nodes : List Node) (depth x : ℕ) → Within (used_sources nodes) depth x → cooked depth files nodes x ≡ cooked (suc depth) files nodes x
 one_more files nodes zero x within = absurd within
 one_more files nodes (suc depth) x within =
     same_visit (cooked depth files nodes) (cooked (suc depth) files nodes) files files x (node_of nodes x)
-    (λ n found kind. refl)
+    (λ n found node_type. refl)
     (λ source used. one_more files nodes depth source (within source used))
 
 -- the rule of the cook
@@ -80,8 +80,8 @@ merge_failure go nodes x wires live each f h = by (gathered go wires) refl h
     by (Err e) is failing = let same : e ≡ f = cc in gathered_failure go nodes wires each f (is ∙ ap Err same)
     by (Ok gs) is failing = own_failure nodes x (merge_geo gs) f live failing
 
-type_failure : (go : ℕ → Outcome) (files : FileMap) (nodes : List Node) (x : ℕ) (n : Node) (kind : NodeType) → IsLive nodes x → ((source : ℕ) → Contains (wired (wires_used_by kind n)) source → FailsAlive go nodes source)
-    → (f : Failure) → visit_type go files x n kind ≡ Err f → IsLive nodes f.node
+type_failure : (go : ℕ → Outcome) (files : FileMap) (nodes : List Node) (x : ℕ) (n : Node) (node_type : NodeType) → IsLive nodes x → ((source : ℕ) → Contains (wired (wires_used_by node_type n)) source → FailsAlive go nodes source)
+    → (f : Failure) → visit_type go files x n node_type ≡ Err f → IsLive nodes f.node
 type_failure go files nodes x n type.File live each f h = own_failure nodes x (file_geo (files (parm_at n.parms 0))) f live h
 type_failure go files nodes x n type.Merge live each f h = merge_failure go nodes x n.wires live each f h
 type_failure go files nodes x n type.Null live each f h = given_failure go nodes x 0 (wire_at n.wires 0) live (λ source e. each source (wired_at n.wires 0 source e)) f h
@@ -92,7 +92,7 @@ type_failure go files nodes x n other live each f h = own_failure nodes x (Err f
 visit_failure : (go : ℕ → Outcome) (files : FileMap) (nodes : List Node) (x : ℕ) (found : Option Node) → IsLive nodes x → ((source : ℕ) → Contains (wired (used_wires found)) source → FailsAlive go nodes source)
     → (f : Failure) → visit go files x found ≡ Err f → IsLive nodes f.node
 visit_failure go files nodes x None live each f h = own_failure nodes x (Err fault.NotYet) f live h
-visit_failure go files nodes x (Some n) live each f h = type_failure go files nodes x n n.kind live each f h
+visit_failure go files nodes x (Some n) live each f h = type_failure go files nodes x n n.node_type live each f h
 
 failure_within : (files : FileMap) (nodes : List Node) → ((x y : ℕ) → Contains (used_sources nodes x) y → IsLive nodes y) → (depth x : ℕ) → IsLive nodes x → (f : Failure) → cooked depth files nodes x ≡ Err f → IsLive nodes f.node
 failure_within files nodes used zero x live f h = own_failure nodes x (Err fault.NotYet) f live h

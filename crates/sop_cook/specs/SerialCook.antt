@@ -13,8 +13,8 @@ use Rattle.sop_model.specs.Geometry.{fits}
 use Rattle.sop_model.specs.Merge.{merged}
 use Rattle.geo_text.specs.ObjReading.{obj_geo, Refusal}
 use Rattle.geo_text.specs.ObjForm.{has_first_form}
-use Rattle.sop_net.specs.declared.kind.NodeType.{NodeType}
-use Rattle.sop_net.specs.declared.kind.NodeType.TheVariants as type
+use Rattle.sop_net.specs.declared.node_type.NodeType.{NodeType}
+use Rattle.sop_net.specs.declared.node_type.NodeType.TheVariants as type
 use Rattle.sop_net.specs.declared.node.Node.{Node}
 use Rattle.sop_net.specs.Network.{node_of, wire_at, parm_at, switch_input}
 use Rattle.sop_cook.specs.declared.loaded.LoadedFile.{LoadedFile}
@@ -78,7 +78,7 @@ visit_type go files x n other = at_node x (Err fault.NotYet)
 
 abbrev pub visit : (ℕ → Outcome) → FileMap → ℕ → Option Node → Outcome
 visit go files x None = at_node x (Err fault.NotYet)
-visit go files x (Some n) = visit_type go files x n n.kind
+visit go files x (Some n) = visit_type go files x n n.node_type
 
 -- at most so many nodes deep
 abbrev pub cooked : ℕ → FileMap → List Node → ℕ → Outcome

@@ -129,7 +129,7 @@ fn make(
     ensures ready { IfOk result IsReady }
 {
     net.is_network();
-    match net.kind(node) {
+    match net.node_type(node) {
         NodeType::File => made_at(node, read_file(alloc, loaded, net.parms(node).text(0))),
         NodeType::Merge => match gather(alloc, net, loaded, node, left, kept) {
             Ok(inputs) => made_at(node, merge(alloc, inputs)),

@@ -68,14 +68,14 @@ fn a_switch_takes_one_input(rt: HostRuntime) -> Result<(), Fail> {
     let mut loaded = Loaded::new(rt.alloc());
     loaded.add("a", bytes(rt.alloc(), TRIANGLE)?)?;
     let mut net = Net::new(rt.alloc());
-    for (kind, name) in [
+    for (word, name) in [
         ("file", "f"),
         ("null", "n"),
         ("null", "m"),
         ("switch", "w"),
         ("xform", "x"),
     ] {
-        net.add(kind, name)?;
+        net.add(word, name)?;
     }
     net.set_parm("f", "file", "a")?;
     for (node, input, source) in [
@@ -106,8 +106,8 @@ fn a_merge_takes_its_inputs_in_order(rt: HostRuntime) -> Result<(), Fail> {
     let mut loaded = Loaded::new(rt.alloc());
     loaded.add("a", bytes(rt.alloc(), TRIANGLE)?)?;
     let mut net = Net::new(rt.alloc());
-    for (kind, name) in [("file", "f"), ("file", "g"), ("merge", "m")] {
-        net.add(kind, name)?;
+    for (word, name) in [("file", "f"), ("file", "g"), ("merge", "m")] {
+        net.add(word, name)?;
     }
     net.set_parm("f", "file", "a")?;
     net.set_parm("g", "file", "b")?;

@@ -9,7 +9,7 @@ use Rattle.std.proofs.lemmas.List.Elements.{All-push, All-weaker}
 use Rattle.std.proofs.lemmas.List.Folds.{list_any-append}
 use Rattle.std.proofs.lemmas.List.Quantifiers.{all_pairs_push}
 use Rattle.sop_model.specs.Names.{is_name, are_distinct}
-use Rattle.sop_net.specs.declared.kind.NodeType.{NodeType}
+use Rattle.sop_net.specs.declared.node_type.NodeType.{NodeType}
 use Rattle.sop_net.specs.declared.node.Node.{Node}
 use Rattle.sop_net.specs.NodeTable.{inputs_of}
 use Rattle.sop_net.specs.Network.{node_of, place_named, IsLive, new_node, wired, wires_of, sources, IsNodeOf}
@@ -104,18 +104,18 @@ keys-added keys new text nodes name key same free is put =
     ∙ any-flip name (map (λ (n : Node). n.name) nodes) ∙ free-name nodes name free in
     ap (map text) (put ∙ ap (λ b. cond b keys (keys ++ key ∷ [])) fresh) ∙ map-push text keys key ∙ ap (λ t. map text keys ++ t ∷ []) is
 
-pub kept-added : (nodes : List Node) (names : List (List ℕ)) (order : List ℕ) (added : ℕ) (kind : NodeType) (name : List ℕ)
+pub kept-added : (nodes : List Node) (names : List (List ℕ)) (order : List ℕ) (added : ℕ) (node_type : NodeType) (name : List ℕ)
     → IsKept nodes names order added → IsTrue (is_name name) → place_named nodes name ≡ None → length nodes < 1024
-    → IsKept (nodes ++ new_node added kind name ∷ []) (names ++ name ∷ []) (order ++ added ∷ []) (added + 1)
-kept-added nodes names order added kind name kept named free room =
-    let n : Node = new_node added kind name in
-    let bare : wired n.wires ≡ [] = wired-none (inputs_of kind) in
+    → IsKept (nodes ++ new_node added node_type name ∷ []) (names ++ name ∷ []) (order ++ added ∷ []) (added + 1)
+kept-added nodes names order added node_type name kept named free room =
+    let n : Node = new_node added node_type name in
+    let bare : wired n.wires ≡ [] = wired-none (inputs_of node_type) in
     let is_order : IsOrder (sources (nodes ++ n ∷ [])) (nodes ++ n ∷ []) (order ++ added ∷ []) = order-added nodes order n kept.is_order bare in
     let net = kept.network in
     record {
       network = record {
         few = rw length-append (omega arith);
-        nodes = All-push IsNodeOf nodes n net.nodes (record { name = named; parms = defaults-taken kind; inputs = length-replicate (inputs_of kind) None });
+        nodes = All-push IsNodeOf nodes n net.nodes (record { name = named; parms = defaults-taken node_type; inputs = length-replicate (inputs_of node_type) None });
         names = rw map-push (distinct-push (map (λ m. m.name) nodes) name net.names (free-name nodes name free));
         rising = all_pairs_push (λ a b. a.number < b.number) nodes n net.rising (λ k d h. net.below k d h);
         below = All-push (λ m. m.number < added + 1) nodes n (All-weaker (λ m. m.number < added) (λ m. m.number < added + 1) (λ m less. omega arith) nodes net.below) (omega arith);

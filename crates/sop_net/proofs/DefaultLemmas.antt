@@ -1,8 +1,8 @@
 -- The parameters of a new node are texts that they take, and it has no wire.
 use Rattle.std.proofs.Common.{◌≡◌, refl, ℕ, zero, suc, List, [], ◌∷◌, Bool, true, false, ◌&&◌, IsTrue}
 use Rattle.std.specs.Prelude.{None, replicate}
-use Rattle.sop_net.specs.declared.kind.NodeType.{NodeType}
-use Rattle.sop_net.specs.declared.kind.NodeType.TheVariants as type
+use Rattle.sop_net.specs.declared.node_type.NodeType.{NodeType}
+use Rattle.sop_net.specs.declared.node_type.NodeType.TheVariants as type
 use Rattle.sop_net.specs.NodeTable.{Parm, parms_of, default_parms}
 use Rattle.sop_net.specs.ParmValues.{is_value}
 use Rattle.sop_net.specs.Network.{AreValues, wired}
@@ -21,7 +21,7 @@ taken [] (text ∷ texts) h = absurd (cc)
 taken (p ∷ parms) [] h = absurd (cc)
 taken (p ∷ parms) (text ∷ texts) h = let parts = and_parts (is_value p.kind text) (are_values parms texts) h in (parts.0, taken parms texts parts.1)
 
-all-taken : (kind : NodeType) → IsTrue (are_values (parms_of kind) (default_parms kind))
+all-taken : (node_type : NodeType) → IsTrue (are_values (parms_of node_type) (default_parms node_type))
 unfolding are_values
 all-taken type.File = refl
 all-taken type.Add = refl
@@ -47,8 +47,8 @@ all-taken type.BlockEnd = refl
 all-taken type.CompileBegin = refl
 all-taken type.CompileEnd = refl
 
-pub defaults-taken : (kind : NodeType) → AreValues (parms_of kind) (default_parms kind)
-defaults-taken kind = taken (parms_of kind) (default_parms kind) (all-taken kind)
+pub defaults-taken : (node_type : NodeType) → AreValues (parms_of node_type) (default_parms node_type)
+defaults-taken node_type = taken (parms_of node_type) (default_parms node_type) (all-taken node_type)
 
 pub wired-none : (n : ℕ) → wired (replicate n None) ≡ []
 wired-none zero = refl

@@ -4,7 +4,7 @@ use Rattle.std.specs.Prelude.{Option, None, Some, map, position, bytes_eq, find,
 use Rattle.std.proofs.Math.ListN.{get_or-map}
 use Rattle.std.proofs.Math.Seq.{take-length}
 use Rattle.std.proofs.lemmas.Option.{slice_get-get_or}
-use Rattle.sop_net.specs.declared.kind.NodeType.{NodeType}
+use Rattle.sop_net.specs.declared.node_type.NodeType.{NodeType}
 use Rattle.sop_net.specs.declared.edit.Edit.{Edit}
 use Rattle.sop_net.specs.declared.net_end.NetEnd.{NetEnd}
 use Rattle.sop_net.specs.declared.net_end.NetEnd.TheVariants.{NoParm, BadValue}
@@ -17,15 +17,15 @@ use Rattle.sop_net.specs.Edits.{edited, AreWithin}
 use Rattle.sop_net.specs.Steps.{refusal_of_value, refusal_of_pair, first_of, refusal_of_pairs, set_at, with_pair, with_pairs}
 use Rattle.sop_net.proofs.Searches.{find-position, position-within, find-no_position}
 
-module _ (rows : List code.Parm) (kind : NodeType) (name value : List ℕ) (same : map parm_meant rows ≡ parms_of kind) where
-  pub judged-none : position (λ p. bytes_eq p.name name) (map parm_meant rows) ≡ None → refusal_of_pair kind name value ≡ Some NoParm
+module _ (rows : List code.Parm) (node_type : NodeType) (name value : List ℕ) (same : map parm_meant rows ≡ parms_of node_type) where
+  pub judged-none : position (λ p. bytes_eq p.name name) (map parm_meant rows) ≡ None → refusal_of_pair node_type name value ≡ Some NoParm
   judged-none none =
       ap (λ found. refusal_of_value found value)
       (ap (find (λ p. bytes_eq p.name name)) (sym same) ∙ find-no_position (λ p. bytes_eq p.name name) (map parm_meant rows) none)
 
   pub judged-some : (at : ℕ) (d : code.Parm) → position (λ p. bytes_eq p.name name) (map parm_meant rows) ≡ Some at
       → (taken : Bool) → taken ≡ is_value (kind_meant (get_or rows at d).kind) value
-      → refusal_of_pair kind name value ≡ (if taken then None else Some BadValue)
+      → refusal_of_pair node_type name value ≡ (if taken then None else Some BadValue)
   judged-some at d some taken is =
       let within : at < length (map parm_meant rows) = position-within (λ p. bytes_eq p.name name) (map parm_meant rows) at some in
       ap (λ found. refusal_of_value found value)
@@ -34,10 +34,10 @@ module _ (rows : List code.Parm) (kind : NodeType) (name value : List ℕ) (same
       ∙ ap (λ b. if b then None else Some BadValue) (sym is)
 
 -- edits so far and pairs left make the whole
-pub record IsStaged (kind : NodeType) (pairs left : List (List ℕ)) (edits : List Edit) : Type 0 where
-  pub refusal : refusal_of_pairs kind left ≡ refusal_of_pairs kind pairs
-  pub texts : (texts : List (List ℕ)) → with_pairs kind (edited texts edits) left ≡ with_pairs kind texts pairs
-  pub within : AreWithin (length (parms_of kind)) edits
+pub record IsStaged (node_type : NodeType) (pairs left : List (List ℕ)) (edits : List Edit) : Type 0 where
+  pub refusal : refusal_of_pairs node_type left ≡ refusal_of_pairs node_type pairs
+  pub texts : (texts : List (List ℕ)) → with_pairs node_type (edited texts edits) left ≡ with_pairs node_type texts pairs
+  pub within : AreWithin (length (parms_of node_type)) edits
 
 edited-push : (texts : List (List ℕ)) (edits : List Edit) (e : Edit) → edited texts (edits ++ e ∷ []) ≡ slice_set (edited texts edits) e.at e.text
 edited-push texts [] e = refl
@@ -50,27 +50,27 @@ within-push n (d ∷ edits) e w h = (w.0, within-push n edits e w.1 h)
 take-rest : {A : Type 0} (xs : List A) → take (suc (suc (length xs)) - 2) xs ≡ xs
 take-rest xs = let e : suc (suc (length xs)) - 2 ≡ length xs = omega arith in ap (λ k. take k xs) e ∙ take-length xs
 
-staged-on : (kind : NodeType) (pairs rest : List (List ℕ)) (name value : List ℕ) (edits : List Edit) (e : Edit)
-    → IsStaged kind pairs (name ∷ value ∷ rest) edits → refusal_of_pair kind name value ≡ None → position (λ p. bytes_eq p.name name) (parms_of kind) ≡ Some e.at → e.text ≡ value
-    → IsStaged kind pairs rest (edits ++ e ∷ [])
-staged-on kind pairs rest name value edits e s fine at is = record {
-  refusal = ap (λ end. first_of end (refusal_of_pairs kind rest)) (sym fine) ∙ s.refusal;
+staged-on : (node_type : NodeType) (pairs rest : List (List ℕ)) (name value : List ℕ) (edits : List Edit) (e : Edit)
+    → IsStaged node_type pairs (name ∷ value ∷ rest) edits → refusal_of_pair node_type name value ≡ None → position (λ p. bytes_eq p.name name) (parms_of node_type) ≡ Some e.at → e.text ≡ value
+    → IsStaged node_type pairs rest (edits ++ e ∷ [])
+staged-on node_type pairs rest name value edits e s fine at is = record {
+  refusal = ap (λ end. first_of end (refusal_of_pairs node_type rest)) (sym fine) ∙ s.refusal;
   texts = λ texts.
-      ap (λ t. with_pairs kind t rest) (edited-push texts edits e ∙ ap (slice_set (edited texts edits) e.at) is ∙ ap (λ place. set_at place (edited texts edits) value) (sym at))
+      ap (λ t. with_pairs node_type t rest) (edited-push texts edits e ∙ ap (slice_set (edited texts edits) e.at) is ∙ ap (λ place. set_at place (edited texts edits) value) (sym at))
       ∙ s.texts texts;
-  within = within-push (length (parms_of kind)) edits e s.within (position-within (λ p. bytes_eq p.name name) (parms_of kind) e.at at);
+  within = within-push (length (parms_of node_type)) edits e s.within (position-within (λ p. bytes_eq p.name name) (parms_of node_type) e.at at);
 }
 
-pub staged-step : (kind : NodeType) (pairs left rest : List (List ℕ)) (name value : List ℕ) (edits : List Edit) (e : Edit)
-    → IsStaged kind pairs left edits → 2 ≤ length left → name ≡ get_or left 0 name → value ≡ get_or left 1 value → rest ≡ take (length left - 2) (drop 2 left)
-    → refusal_of_pair kind name value ≡ None → position (λ p. bytes_eq p.name name) (parms_of kind) ≡ Some e.at → e.text ≡ value
-    → IsStaged kind pairs rest (edits ++ e ∷ [])
-staged-step kind pairs [] rest name value edits e s two n v r fine at is = absurd (omega arith)
-staged-step kind pairs (a ∷ []) rest name value edits e s two n v r fine at is = absurd (omega arith)
-staged-step kind pairs (a ∷ b ∷ more) rest name value edits e s two n v r fine at is =
+pub staged-step : (node_type : NodeType) (pairs left rest : List (List ℕ)) (name value : List ℕ) (edits : List Edit) (e : Edit)
+    → IsStaged node_type pairs left edits → 2 ≤ length left → name ≡ get_or left 0 name → value ≡ get_or left 1 value → rest ≡ take (length left - 2) (drop 2 left)
+    → refusal_of_pair node_type name value ≡ None → position (λ p. bytes_eq p.name name) (parms_of node_type) ≡ Some e.at → e.text ≡ value
+    → IsStaged node_type pairs rest (edits ++ e ∷ [])
+staged-step node_type pairs [] rest name value edits e s two n v r fine at is = absurd (omega arith)
+staged-step node_type pairs (a ∷ []) rest name value edits e s two n v r fine at is = absurd (omega arith)
+staged-step node_type pairs (a ∷ b ∷ more) rest name value edits e s two n v r fine at is =
     let behind : rest ≡ more = r ∙ take-rest more in
     let same : a ∷ b ∷ more ≡ name ∷ value ∷ rest = rw (n, v, behind) refl in
-    staged-on kind pairs rest name value edits e (subst (λ l. IsStaged kind pairs l edits) same s) fine at is
+    staged-on node_type pairs rest name value edits e (subst (λ l. IsStaged node_type pairs l edits) same s) fine at is
 
 -- texts that are set stay texts that their parameters take
 values-set : (parms : List Parm) (texts : List (List ℕ)) (i : ℕ) (p : Parm) (value : List ℕ) → AreValues parms texts → slice_get parms i ≡ Some p → IsTrue (is_value p.kind value) → AreValues parms (slice_set texts i value)
@@ -93,18 +93,18 @@ values-found (Some p) (Some i) parms texts value at v fine =
     values-set parms texts i p value v (sym (at i refl))
     ((elim (is_value p.kind value) as (λ b. (if b then None else Some BadValue) ≡ None → b ≡ true) [ true ↦ λ e. refl | false ↦ λ e. absurd (cc) ]) fine)
 
-values-pair : (kind : NodeType) (texts : List (List ℕ)) (name value : List ℕ) → AreValues (parms_of kind) texts → refusal_of_pair kind name value ≡ None → AreValues (parms_of kind) (with_pair kind texts name value)
-values-pair kind texts name value v fine =
-    values-found (find (λ p. bytes_eq p.name name) (parms_of kind)) (position (λ p. bytes_eq p.name name) (parms_of kind)) (parms_of kind) texts value
-    (λ i e. find-position (λ p. bytes_eq p.name name) (parms_of kind) i e) v fine
+values-pair : (node_type : NodeType) (texts : List (List ℕ)) (name value : List ℕ) → AreValues (parms_of node_type) texts → refusal_of_pair node_type name value ≡ None → AreValues (parms_of node_type) (with_pair node_type texts name value)
+values-pair node_type texts name value v fine =
+    values-found (find (λ p. bytes_eq p.name name) (parms_of node_type)) (position (λ p. bytes_eq p.name name) (parms_of node_type)) (parms_of node_type) texts value
+    (λ i e. find-position (λ p. bytes_eq p.name name) (parms_of node_type) i e) v fine
 
 first-none : (a b : Option NetEnd) → first_of a b ≡ None → (a ≡ None) × (b ≡ None)
 first-none None b e = (refl, e)
 first-none (Some end) b e = absurd (cc)
 
-pub values-pairs : (kind : NodeType) (texts pairs : List (List ℕ)) → AreValues (parms_of kind) texts → refusal_of_pairs kind pairs ≡ None → AreValues (parms_of kind) (with_pairs kind texts pairs)
-values-pairs kind texts [] v fine = v
-values-pairs kind texts (name ∷ []) v fine = v
-values-pairs kind texts (name ∷ value ∷ pairs) v fine =
-    let parts = first-none (refusal_of_pair kind name value) (refusal_of_pairs kind pairs) fine in
-    values-pairs kind (with_pair kind texts name value) pairs (values-pair kind texts name value v parts.0) parts.1
+pub values-pairs : (node_type : NodeType) (texts pairs : List (List ℕ)) → AreValues (parms_of node_type) texts → refusal_of_pairs node_type pairs ≡ None → AreValues (parms_of node_type) (with_pairs node_type texts pairs)
+values-pairs node_type texts [] v fine = v
+values-pairs node_type texts (name ∷ []) v fine = v
+values-pairs node_type texts (name ∷ value ∷ pairs) v fine =
+    let parts = first-none (refusal_of_pair node_type name value) (refusal_of_pairs node_type pairs) fine in
+    values-pairs node_type (with_pair node_type texts name value) pairs (values-pair node_type texts name value v parts.0) parts.1

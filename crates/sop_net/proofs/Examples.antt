@@ -1,7 +1,7 @@
 -- Worked examples of the steps of a network and of the texts that parameters take, by computation.
 use Rattle.std.proofs.Common.{◌≡◌, refl, ℕ, List, [], ◌∷◌, true, false}
 use Rattle.std.specs.Prelude.{None, Some, Ok, Err, codes, pos, replicate}
-use Rattle.sop_net.specs.declared.kind.NodeType.TheVariants as type
+use Rattle.sop_net.specs.declared.node_type.NodeType.TheVariants as type
 use Rattle.sop_net.specs.declared.net_end.NetEnd.TheVariants.{BadName, NameTaken, NoType, NoNode, NoParm, BadValue, BadInput, Cycle}
 use Rattle.sop_net.specs.declared.node.Node.{Node}
 use Rattle.sop_net.specs.Network.{Network, empty_network, new_node, used_sources}
@@ -43,7 +43,7 @@ no_source = refl
 
 -- a chain: b takes from a, c from b
 abbrev null : ℕ → List ℕ → ℕ → Node
-null number name source = record { number = number; name = name; kind = type.Null; parms = []; wires = Some source ∷ [] }
+null number name source = record { number = number; name = name; node_type = type.Null; parms = []; wires = Some source ∷ [] }
 
 abbrev chain : Network
 chain = record { nodes = new_node 0 type.Null (codes "a") ∷ null 1 (codes "b") 0 ∷ null 2 (codes "c") 1 ∷ []; added = 3 }
@@ -65,7 +65,7 @@ removed = refl
 
 -- all pairs are judged before the first is set, and of one parameter twice the last text stays
 abbrev line : List (List ℕ) → Network
-line parms = record { nodes = record { number = 0; name = codes "l"; kind = type.Line; parms = parms; wires = [] } ∷ []; added = 1 }
+line parms = record { nodes = record { number = 0; name = codes "l"; node_type = type.Line; parms = parms; wires = [] } ∷ []; added = 1 }
 
 second_pair : set_node (line (default_parms type.Line)) (codes "l") (codes "points" ∷ codes "3" ∷ codes "points" ∷ codes "0" ∷ []) ≡ Err BadValue
 second_pair = refl
@@ -76,7 +76,7 @@ last_stays = refl
 
 -- a switch uses the wire into the input that it takes
 abbrev switch : List ℕ → List Node
-switch input = record { number = 3; name = codes "s"; kind = type.Switch; parms = input ∷ []; wires = Some 0 ∷ None ∷ Some 2 ∷ replicate 29 None } ∷ []
+switch input = record { number = 3; name = codes "s"; node_type = type.Switch; parms = input ∷ []; wires = Some 0 ∷ None ∷ Some 2 ∷ replicate 29 None } ∷ []
 
 switch_input : used_sources (switch (codes "2")) 3 ≡ 2 ∷ []
 switch_input = refl

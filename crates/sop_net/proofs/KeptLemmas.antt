@@ -4,7 +4,7 @@ use Rattle.std.specs.Prelude.{None, Some, map, All, filter, remove}
 use Rattle.std.specs.List.{position_or_len}
 use Rattle.std.proofs.lemmas.List.Elements.{All-weaker}
 use Rattle.sop_model.specs.Names.{is_name}
-use Rattle.sop_net.specs.declared.kind.NodeType.{NodeType}
+use Rattle.sop_net.specs.declared.node_type.NodeType.{NodeType}
 use Rattle.sop_net.specs.declared.node.Node.{Node}
 use Rattle.sop_net.specs.Network.{place_named, IsLive, new_node, sources}
 use Rattle.sop_net.specs.Order.{In, IsOrder, IsRanking, IsRanked, IsKept, with_source}
@@ -28,12 +28,12 @@ module _ (nodes : List Node) (names : List (List ℕ)) (order ranks : List ℕ) 
       let k = position_or_len (λ (n : Node). n.number == added) nodes in
       unused nodes k added s.within (λ d. s.numbered d) (λ d h. kept.0.network.below k d h)
 
-  pub both-added : (kind : NodeType) (name : List ℕ) → IsTrue (is_name name) → place_named nodes name ≡ None → length nodes < 1024
-      → IsKept (nodes ++ new_node added kind name ∷ []) (names ++ name ∷ []) (order ++ added ∷ []) (added + 1)
-      × IsRanked (nodes ++ new_node added kind name ∷ []) (order ++ added ∷ []) (ranks ++ added ∷ []) (added + 1)
-  both-added kind name named free room =
-      let after = kept-added nodes names order added kind name kept.0 named free room in
-      (after, ranked-added nodes order ranks (new_node added kind name) after.network.rising kept.0.is_order.live kept.1 fresh)
+  pub both-added : (node_type : NodeType) (name : List ℕ) → IsTrue (is_name name) → place_named nodes name ≡ None → length nodes < 1024
+      → IsKept (nodes ++ new_node added node_type name ∷ []) (names ++ name ∷ []) (order ++ added ∷ []) (added + 1)
+      × IsRanked (nodes ++ new_node added node_type name ∷ []) (order ++ added ∷ []) (ranks ++ added ∷ []) (added + 1)
+  both-added node_type name named free room =
+      let after = kept-added nodes names order added node_type name kept.0 named free room in
+      (after, ranked-added nodes order ranks (new_node added node_type name) after.network.rising kept.0.is_order.live kept.1 fresh)
 
   module _ (at : ℕ) (within : at < length nodes) where
     pub both-removed : (n : Node) → n ≡ get_or nodes at n
@@ -44,7 +44,7 @@ module _ (nodes : List Node) (names : List (List ℕ)) (order ranks : List ℕ) 
         (after, ranked-removed nodes order ranks at n within read after.network.rising kept.0.is_order.live added kept.1)
 
     module _ (m n : Node) (judged : m ≡ get_or nodes at m) (read : n ≡ get_or nodes at n) where
-      pub both-set : (pairs now : List (List ℕ)) → refusal_of_pairs m.kind pairs ≡ None → with_pairs m.kind n.parms pairs ≡ now
+      pub both-set : (pairs now : List (List ℕ)) → refusal_of_pairs m.node_type pairs ≡ None → with_pairs m.node_type n.parms pairs ≡ now
           → IsKept (set nodes at (record n { parms = now })) names order added × IsRanked (set nodes at (record n { parms = now })) order ranks added
       both-set pairs now fine is =
           let after = kept-pairs nodes names order added at kept.0 within m n judged read pairs now fine is in

@@ -1,17 +1,17 @@
 -- Worked examples of the files that a cook needs, by computation.
 use Rattle.std.specs.Prelude.{◌≡◌, refl, ℕ, List, [], ◌∷◌, Option, None, Some, codes}
 use Rattle.sop_net.specs.declared.node.Node.{Node}
-use Rattle.sop_net.specs.declared.kind.NodeType.TheVariants as type
+use Rattle.sop_net.specs.declared.node_type.NodeType.TheVariants as type
 use Rattle.sop_net.specs.Needs.{needed}
 
 abbrev file : ℕ → List ℕ → Node
-file number name = record { number = number; name = codes "file"; kind = type.File; parms = name ∷ []; wires = [] }
+file number name = record { number = number; name = codes "file"; node_type = type.File; parms = name ∷ []; wires = [] }
 
 abbrev merge : ℕ → List (Option ℕ) → Node
-merge number wires = record { number = number; name = codes "merge"; kind = type.Merge; parms = []; wires = wires }
+merge number wires = record { number = number; name = codes "merge"; node_type = type.Merge; parms = []; wires = wires }
 
 abbrev switch : ℕ → List ℕ → List (Option ℕ) → Node
-switch number input wires = record { number = number; name = codes "switch"; kind = type.Switch; parms = input ∷ []; wires = wires }
+switch number input wires = record { number = number; name = codes "switch"; node_type = type.Switch; parms = input ∷ []; wires = wires }
 
 -- two nodes load b.obj; node 3 takes a.obj first, 7 takes 3 twice over
 abbrev nodes : List Node

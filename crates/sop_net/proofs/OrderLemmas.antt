@@ -1,8 +1,8 @@
 -- What an order of the nodes says of ways upstream.
 use Rattle.std.proofs.Common.{◌≡◌, refl, ℕ, zero, suc, ◌-◌, ◌≤◌, inl, inr, List, [], ◌∷◌, true, length, arith}
 use Rattle.std.specs.Prelude.{Option, None, Some, Contains, is_some}
-use Rattle.sop_net.specs.declared.kind.NodeType.{NodeType}
-use Rattle.sop_net.specs.declared.kind.NodeType.TheVariants as type
+use Rattle.sop_net.specs.declared.node_type.NodeType.{NodeType}
+use Rattle.sop_net.specs.declared.node_type.NodeType.TheVariants as type
 use Rattle.sop_net.specs.declared.node.Node.{Node}
 use Rattle.sop_net.specs.Graph.{Within, HasNoCycle}
 use Rattle.sop_net.specs.Network.{node_of, IsLive, wired, wires_of, wire_at, sources, used_wires, wires_used_by, used_sources, switch_input}
@@ -33,13 +33,13 @@ at-in (Some source ∷ wires) zero y (inr none) = absurd none
 at-in (None ∷ wires) (suc i) y j = at-in wires i y j
 at-in (Some source ∷ wires) (suc i) y j = inr (at-in wires i y j)
 
-used-by : (kind : NodeType) (n : Node) (y : ℕ) → In (wired (wires_used_by kind n)) y → In (wired n.wires) y
+used-by : (node_type : NodeType) (n : Node) (y : ℕ) → In (wired (wires_used_by node_type n)) y → In (wired n.wires) y
 used-by type.Switch n y i = at-in n.wires (switch_input n) y i
 used-by other n y i = i
 
 used-of : (o : Option Node) (y : ℕ) → In (wired (used_wires o)) y → In (wired (wires_of o)) y
 used-of None y i = i
-used-of (Some n) y i = used-by n.kind n y i
+used-of (Some n) y i = used-by n.node_type n y i
 
 pub used-in : (nodes : List Node) (x y : ℕ) → In (used_sources nodes x) y → In (sources nodes x) y
 used-in nodes x y i = used-of (node_of nodes x) y i

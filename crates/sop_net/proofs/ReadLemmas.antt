@@ -3,8 +3,8 @@ use Rattle.std.proofs.Common.{◌≡◌, Bool, true, false, cond, ◌==◌, ℕ,
 use Rattle.std.specs.Prelude.{All, Option, None, Some, slice_get, option_map}
 use Rattle.std.proofs.lemmas.List.Elements.{All-head, All-tail}
 use Rattle.sop_net.specs.declared.node.Node.{Node}
-use Rattle.sop_net.specs.declared.kind.NodeType.{NodeType}
-use Rattle.sop_net.specs.declared.kind.NodeType.TheVariants as type
+use Rattle.sop_net.specs.declared.node_type.NodeType.{NodeType}
+use Rattle.sop_net.specs.declared.node_type.NodeType.TheVariants as type
 use Rattle.sop_net.specs.NodeTable.{parms_of, inputs_of}
 use Rattle.sop_net.specs.Network.{node_of, parm_at, used_wires, wires_used_by, AreValues, IsNodeOf}
 
@@ -38,21 +38,21 @@ some_text [] h = absurd h
 some_text (text ∷ texts) h = omega arith
 
 -- a file node has a parameter
-pub file_parms : (n : Node) → n.kind ≡ type.File → IsNodeOf n → 0 < length n.parms
-file_parms n kind fits = some_text n.parms (subst (λ k. AreValues (parms_of k) n.parms) kind fits.parms)
+pub file_parms : (n : Node) → n.node_type ≡ type.File → IsNodeOf n → 0 < length n.parms
+file_parms n node_type fits = some_text n.parms (subst (λ k. AreValues (parms_of k) n.parms) node_type fits.parms)
 
 pub first_parm : (texts : List (List ℕ)) (text : List ℕ) → slice_get texts 0 ≡ Some text → text ≡ parm_at texts 0
 first_parm [] text h = let no : ⊥ = cc in absurd no
 first_parm (t ∷ texts) text h = let same : text ≡ t = cc in same
 
-pub wires_used : (nodes : List Node) (x : ℕ) (n : Node) (kind : NodeType) → node_of nodes x ≡ Some n → n.kind ≡ kind → used_wires (node_of nodes x) ≡ wires_used_by kind n
-wires_used nodes x n kind found is = ap used_wires found ∙ ap (λ k. wires_used_by k n) is
+pub wires_used : (nodes : List Node) (x : ℕ) (n : Node) (node_type : NodeType) → node_of nodes x ≡ Some n → n.node_type ≡ node_type → used_wires (node_of nodes x) ≡ wires_used_by node_type n
+wires_used nodes x n node_type found is = ap used_wires found ∙ ap (λ k. wires_used_by k n) is
 
-few_inputs : (kind : NodeType) → inputs_of kind ≤ 32
+few_inputs : (node_type : NodeType) → inputs_of node_type ≤ 32
 few_inputs type.File = omega arith
 few_inputs other = omega arith
 
-few_by : (kind : NodeType) (n : Node) → length n.wires ≤ 32 → length (wires_used_by kind n) ≤ 32
+few_by : (node_type : NodeType) (n : Node) → length n.wires ≤ 32 → length (wires_used_by node_type n) ≤ 32
 few_by type.Switch n few = omega arith
 few_by other n few = few
 
@@ -62,4 +62,4 @@ few_used nodes x all = by (node_of nodes x) refl
   where
     by : (found : Option Node) → node_of nodes x ≡ found → length (used_wires found) ≤ 32
     by None here = omega arith
-    by (Some n) here = few_by n.kind n (let few = few_inputs n.kind in let e = (node_fits nodes x n all here).inputs in omega (arith, few, e))
+    by (Some n) here = few_by n.node_type n (let few = few_inputs n.node_type in let e = (node_fits nodes x n all here).inputs in omega (arith, few, e))

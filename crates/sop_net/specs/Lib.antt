@@ -6,5 +6,6 @@ pub mod Network
 pub mod Order
 pub mod Steps
 pub mod Edits
+pub mod Sockets
 pub mod Needs
 pub mod Listing

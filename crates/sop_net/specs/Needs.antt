@@ -2,8 +2,8 @@
 -- rising input number, inputs before the node, each name once.
 use Rattle.std.specs.Prelude.{ℕ, zero, suc, Bool, false, if◌then◌else◌, List, [], ◌∷◌, ◌++◌, length, flat_map, Option, None, Some, bytes_eq}
 use Rattle.std.specs.List.{list_any}
-use Rattle.sop_net.specs.declared.kind.NodeType.{NodeType}
-use Rattle.sop_net.specs.declared.kind.NodeType.TheVariants as type
+use Rattle.sop_net.specs.declared.node_type.NodeType.{NodeType}
+use Rattle.sop_net.specs.declared.node_type.NodeType.TheVariants as type
 use Rattle.sop_net.specs.declared.node.Node.{Node}
 use Rattle.sop_net.specs.Network.{node_of, used_sources, parm_at}
 
@@ -19,7 +19,7 @@ file_of_type other n = None
 
 abbrev pub file_of_node : Option Node → Option (List ℕ)
 file_of_node None = None
-file_of_node (Some n) = file_of_type n.kind n
+file_of_node (Some n) = file_of_type n.node_type n
 
 abbrev pub file_of : List Node → ℕ → Option (List ℕ)
 file_of nodes x = file_of_node (node_of nodes x)

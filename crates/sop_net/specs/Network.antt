@@ -6,8 +6,8 @@
 use Rattle.std.specs.Prelude.{◌≡◌, ℕ, ◌<◌, ◌≤◌, ◌==◌, IsTrue, zero, suc, ⊤, Contains, List, [], ◌∷◌, length, All, Option, None, Some, find, position, slice_get, replicate, option_map, bytes_eq, is_some, unsigned_abs, map, AllPairs}
 use Rattle.std.specs.Option.{option_and_then}
 use Rattle.sop_model.specs.Names.{is_name, are_distinct}
-use Rattle.sop_net.specs.declared.kind.NodeType.{NodeType}
-use Rattle.sop_net.specs.declared.kind.NodeType.TheVariants as type
+use Rattle.sop_net.specs.declared.node_type.NodeType.{NodeType}
+use Rattle.sop_net.specs.declared.node_type.NodeType.TheVariants as type
 use Rattle.sop_net.specs.declared.node.Node.{Node}
 use Rattle.sop_net.specs.NodeTable.{Parm, inputs_of, parms_of, default_parms}
 use Rattle.sop_net.specs.ParmValues.{is_value, whole_of}
@@ -44,7 +44,7 @@ number_named nodes name = option_map (λ n. n.number) (node_named nodes name)
 
 -- a node with default parameters and no wire
 abbrev pub new_node : ℕ → NodeType → List ℕ → Node
-new_node number kind name = record { number = number; name = name; kind = kind; parms = default_parms kind; wires = replicate (inputs_of kind) None }
+new_node number node_type name = record { number = number; name = name; node_type = node_type; parms = default_parms node_type; wires = replicate (inputs_of node_type) None }
 
 -- the wire into an input
 abbrev pub wire_at : List (Option ℕ) → ℕ → Option ℕ
@@ -81,7 +81,7 @@ wires_used_by other n = n.wires
 
 abbrev pub used_wires : Option Node → List (Option ℕ)
 used_wires None = []
-used_wires (Some n) = wires_used_by n.kind n
+used_wires (Some n) = wires_used_by n.node_type n
 
 -- what the node of this number takes from, by used wires
 abbrev pub used_sources : List Node → ℕ → List ℕ
@@ -97,8 +97,8 @@ AreValues (p ∷ parms) (text ∷ texts) = IsTrue (is_value p.kind text) × AreV
 -- a node as its type asks for
 pub record IsNodeOf (n : Node) : Type 0 where
   pub name : IsTrue (is_name n.name)
-  pub parms : AreValues (parms_of n.kind) n.parms
-  pub inputs : length n.wires ≡ inputs_of n.kind
+  pub parms : AreValues (parms_of n.node_type) n.parms
+  pub inputs : length n.wires ≡ inputs_of n.node_type
 
 -- what holds of every network
 pub record IsNetwork (net : Network) : Type 0 where

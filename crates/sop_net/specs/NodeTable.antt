@@ -1,8 +1,8 @@
 -- The types of nodes: the word of each, its number of inputs, whether these may stay unwired, and its parameters in order, each with the
 -- values that it takes and the one that it has at first.
 use Rattle.std.specs.Prelude.{ℕ, ℤ, pos, neg_ℤ, Bool, true, false, List, [], ◌∷◌, map, codes, Option, find, bytes_eq}
-use Rattle.sop_net.specs.declared.kind.NodeType.{NodeType}
-use Rattle.sop_net.specs.declared.kind.NodeType.TheVariants as type
+use Rattle.sop_net.specs.declared.node_type.NodeType.{NodeType}
+use Rattle.sop_net.specs.declared.node_type.NodeType.TheVariants as type
 
 -- the values that a parameter takes
 pub data ParmKind : Type 0 where

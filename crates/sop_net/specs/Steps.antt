@@ -3,7 +3,7 @@
 use Rattle.std.specs.Prelude.{ℕ, ◌+◌, ◌-◌, ◌*◌, Bool, ◌&&◌, ◌||◌, not, nat_le, nat_lt, ◌==◌, if◌then◌else◌, List, [], ◌∷◌, ◌++◌, length, map, remove, Option, None, Some, Result, Ok, Err, find, position, is_some, slice_get, slice_set, bytes_eq}
 use Rattle.std.specs.Char.{is_ascii_digit}
 use Rattle.sop_model.specs.Names.{is_name}
-use Rattle.sop_net.specs.declared.kind.NodeType.{NodeType}
+use Rattle.sop_net.specs.declared.node_type.NodeType.{NodeType}
 use Rattle.sop_net.specs.declared.node.Node.{Node}
 use Rattle.sop_net.specs.declared.net_end.NetEnd.{NetEnd}
 use Rattle.sop_net.specs.declared.net_end.NetEnd.TheVariants.{BadName, NameTaken, NoType, Limit, NoNode, NoParm, BadValue, BadInput, Cycle}
@@ -21,11 +21,11 @@ abbrev pub has_no_room : Network → Bool
 has_no_room net = nat_le 1024 (length net.nodes) || nat_le 18446744073709551615 net.added
 
 abbrev pub with_node : Network → NodeType → List ℕ → Network
-with_node net kind name = record { nodes = net.nodes ++ new_node net.added kind name ∷ []; added = net.added + 1 }
+with_node net node_type name = record { nodes = net.nodes ++ new_node net.added node_type name ∷ []; added = net.added + 1 }
 
 abbrev pub added_of_type : Network → Option NodeType → List ℕ → Step
 added_of_type net None name = Err NoType
-added_of_type net (Some kind) name = if has_no_room net then Err Limit else Ok (with_node net kind name)
+added_of_type net (Some node_type) name = if has_no_room net then Err Limit else Ok (with_node net node_type name)
 
 abbrev pub added_node : Network → List ℕ → List ℕ → Step
 added_node net word name =
@@ -57,7 +57,7 @@ refusal_of_value None value = Some NoParm
 refusal_of_value (Some p) value = if is_value p.kind value then None else Some BadValue
 
 abbrev pub refusal_of_pair : NodeType → List ℕ → List ℕ → Option NetEnd
-refusal_of_pair kind parm value = refusal_of_value (find (λ p. bytes_eq p.name parm) (parms_of kind)) value
+refusal_of_pair node_type parm value = refusal_of_value (find (λ p. bytes_eq p.name parm) (parms_of node_type)) value
 
 abbrev pub first_of : Option NetEnd → Option NetEnd → Option NetEnd
 first_of None later = later
@@ -65,28 +65,28 @@ first_of (Some end) later = Some end
 
 -- the first refusal among parameters and texts in turn
 abbrev pub refusal_of_pairs : NodeType → List (List ℕ) → Option NetEnd
-refusal_of_pairs kind [] = None
-refusal_of_pairs kind (parm ∷ []) = None
-refusal_of_pairs kind (parm ∷ value ∷ pairs) = first_of (refusal_of_pair kind parm value) (refusal_of_pairs kind pairs)
+refusal_of_pairs node_type [] = None
+refusal_of_pairs node_type (parm ∷ []) = None
+refusal_of_pairs node_type (parm ∷ value ∷ pairs) = first_of (refusal_of_pair node_type parm value) (refusal_of_pairs node_type pairs)
 
 abbrev pub set_at : Option ℕ → List (List ℕ) → List ℕ → List (List ℕ)
 set_at None texts value = texts
 set_at (Some i) texts value = slice_set texts i value
 
 abbrev pub with_pair : NodeType → List (List ℕ) → List ℕ → List ℕ → List (List ℕ)
-with_pair kind texts parm value = set_at (position (λ p. bytes_eq p.name parm) (parms_of kind)) texts value
+with_pair node_type texts parm value = set_at (position (λ p. bytes_eq p.name parm) (parms_of node_type)) texts value
 
 abbrev pub with_pairs : NodeType → List (List ℕ) → List (List ℕ) → List (List ℕ)
-with_pairs kind texts [] = texts
-with_pairs kind texts (parm ∷ []) = texts
-with_pairs kind texts (parm ∷ value ∷ pairs) = with_pairs kind (with_pair kind texts parm value) pairs
+with_pairs node_type texts [] = texts
+with_pairs node_type texts (parm ∷ []) = texts
+with_pairs node_type texts (parm ∷ value ∷ pairs) = with_pairs node_type (with_pair node_type texts parm value) pairs
 
 abbrev pub unless_refused : Option NetEnd → Network → Step
 unless_refused None net = Ok net
 unless_refused (Some end) net = Err end
 
 abbrev pub set_on : Network → List (List ℕ) → ℕ → Node → Step
-set_on net pairs at n = unless_refused (refusal_of_pairs n.kind pairs) (with_changed net at (record n { parms = with_pairs n.kind n.parms pairs }))
+set_on net pairs at n = unless_refused (refusal_of_pairs n.node_type pairs) (with_changed net at (record n { parms = with_pairs n.node_type n.parms pairs }))
 
 abbrev pub set_node : Network → List ℕ → List (List ℕ) → Step
 set_node net name pairs = on_named net name (set_on net pairs)

@@ -5,8 +5,8 @@ ghost use Rattle.sop_net.specs.Rows.{parm_meant};
 ghost use Rattle.sop_net.specs.Edits.{edited, AreWithin};
 ghost use Rattle.sop_net.specs.Steps.{refusal_of_pair, refusal_of_pairs, with_pairs};
 
-use crate::kind::NodeType;
 use crate::net_end::NetEnd;
+use crate::node_type::NodeType;
 use crate::table::Parm;
 use sop_outside::Text;
 use std::alloc::{AllocError, Global};
@@ -25,12 +25,12 @@ fn place_of_parm(parms: &[Parm], name: &str) -> Option<usize>
 }
 
 /// A text for a parameter of a type, judged: `NoParm`, then `BadValue`.
-pub fn staged(alloc: Global, kind: NodeType, name: &str, value: &str) -> Result<Edit, NetEnd>
-    ensures ok { IfOk result (λ edit. refusal_of_pair kind name.now value.now ≡ None) }
-    ensures edit { IfOk result (λ edit. (position (λ p. bytes_eq p.name name.now) (parms_of kind) ≡ Some edit.at) × (edit.text ≡ value.now)) }
-    ensures refused { IfErr result (λ end. (end ≡ NetEnd.Memory) ⊎ (refusal_of_pair kind name.now value.now ≡ Some end)) }
+pub fn staged(alloc: Global, node_type: NodeType, name: &str, value: &str) -> Result<Edit, NetEnd>
+    ensures ok { IfOk result (λ edit. refusal_of_pair node_type name.now value.now ≡ None) }
+    ensures edit { IfOk result (λ edit. (position (λ p. bytes_eq p.name name.now) (parms_of node_type) ≡ Some edit.at) × (edit.text ≡ value.now)) }
+    ensures refused { IfErr result (λ end. (end ≡ NetEnd.Memory) ⊎ (refusal_of_pair node_type name.now value.now ≡ Some end)) }
 {
-    let parms = kind.row().parms;
+    let parms = node_type.row().parms;
     let Some(at) = place_of_parm(parms, name) else {
         return Err(NetEnd::NoParm);
     };
@@ -43,16 +43,16 @@ pub fn staged(alloc: Global, kind: NodeType, name: &str, value: &str) -> Result<
 }
 
 /// Texts for parameters of a type, each parameter followed by its text, judged in turn.
-pub fn staged_pairs(alloc: Global, kind: NodeType, pairs: &[Text]) -> Result<Vec<Edit>, NetEnd>
-    ensures ok { IfOk result (λ edits. refusal_of_pairs kind pairs.now ≡ None) }
-    ensures edits { IfOk result (λ edits. (texts : List (List ℕ)) → with_pairs kind texts pairs.now ≡ edited texts edits.items) }
-    ensures within { IfOk result (λ edits. AreWithin (length (parms_of kind)) edits.items) }
-    ensures refused { IfErr result (λ end. (end ≡ NetEnd.Memory) ⊎ (refusal_of_pairs kind pairs.now ≡ Some end)) }
+pub fn staged_pairs(alloc: Global, node_type: NodeType, pairs: &[Text]) -> Result<Vec<Edit>, NetEnd>
+    ensures ok { IfOk result (λ edits. refusal_of_pairs node_type pairs.now ≡ None) }
+    ensures edits { IfOk result (λ edits. (texts : List (List ℕ)) → with_pairs node_type texts pairs.now ≡ edited texts edits.items) }
+    ensures within { IfOk result (λ edits. AreWithin (length (parms_of node_type)) edits.items) }
+    ensures refused { IfErr result (λ end. (end ≡ NetEnd.Memory) ⊎ (refusal_of_pairs node_type pairs.now ≡ Some end)) }
 {
     let mut edits = Vec::new(alloc);
     let mut left = pairs;
     while let [name, value, rest @ ..] = left {
-        let edit = staged(alloc, kind, name.as_str(), value.as_str())?;
+        let edit = staged(alloc, node_type, name.as_str(), value.as_str())?;
         if edits.push(edit).is_err() {
             return Err(NetEnd::Memory);
         }

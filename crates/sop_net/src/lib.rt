@@ -3,21 +3,21 @@
 
 mod edit;
 mod input;
-mod kind;
 mod name;
 mod needs;
 mod net;
 mod net_end;
 mod node;
+mod node_type;
 mod order;
 mod place;
 mod table;
 mod value;
 
-pub use kind::NodeType;
 pub use net::Net;
 pub use net_end::NetEnd;
-pub use node::{Node, NodeId, Parms, WireList};
+pub use node::{Node, NodeId, Parms, Sockets, WireList};
+pub use node_type::NodeType;
 
 #[cfg(test)]
 mod tests;

@@ -7,9 +7,9 @@ ghost use Rattle.sop_net.specs.Network.{IsLive, used_sources};
 ghost use Rattle.sop_net.specs.Needs.{file_of, is_file_named, needed, with_file};
 ghost use Rattle.sop_net.specs.Listing.{IsListing, IsWritten, with_needs};
 
-use crate::kind::NodeType;
 use crate::net::Net;
 use crate::node::NodeId;
+use crate::node_type::NodeType;
 
 /// The greatest number of inputs of a node.
 const MOST_INPUTS: u32 = 32;
@@ -23,7 +23,7 @@ fn file_name(net: &Net, node: NodeId) -> Option<&str>
     ensures { option_copied result ≡ file_of net.now.nodes node }
 {
     net.is_network();
-    match net.kind(node) {
+    match net.node_type(node) {
         NodeType::File => Some(net.parms(node).text(0)),
         _ => None,
     }

@@ -1,18 +1,19 @@
 // The network and its steps.
-ghost use Rattle.std.specs.Prelude.{◌≡◌, ◌≢◌, ◌<◌, ◌≤◌, ◌⊎◌, ◌%◌, ◌↔◌, true, ◌∷◌, [], ◌++◌, length, drop, IsTrue, vec_len, vec_capacity, IfOk, IfErr, IfSome, OnOk, OnErr, Ok, Err, Some, option_map, slice_get, map, ℕ, Contains};
+ghost use Rattle.std.specs.Prelude.{◌≡◌, ◌≢◌, ◌<◌, ◌≤◌, ◌⊎◌, ◌%◌, ◌↔◌, true, ◌∷◌, [], ◌+◌, ◌++◌, length, drop, IsTrue, vec_len, vec_capacity, IfOk, IfErr, IfSome, OnOk, OnErr, Ok, Err, Some, option_map, slice_get, map, ℕ, Contains};
 ghost use Rattle.sop_net.specs.Network.{empty_network, node_of, number_named, place_of, place_named, IsLive, IsNetwork, IsNodeOf, wire_at, wires_of, sources, used_sources, used_wires, switch_input};
 ghost use Rattle.sop_net.specs.Graph.{Within, Reaches, searched};
 ghost use Rattle.sop_net.specs.Steps.{added_node, with_node, set_node, wired_node, removed_node, unwired};
 ghost use Rattle.sop_model.specs.Names.{is_name};
-ghost use Rattle.sop_net.specs.Needs.{needed};
+ghost use Rattle.sop_net.specs.Needs.{needed, file_of};
+ghost use Rattle.sop_net.specs.Sockets.{sockets_from, sockets_of};
 
 use crate::edit::{staged, staged_pairs};
 use crate::input::input_below;
-use crate::kind::NodeType;
 use crate::name::is_name;
 use crate::needs::needs_of;
 use crate::net_end::NetEnd;
-use crate::node::{Node, NodeId, Parms};
+use crate::node::{Node, NodeId, Parms, Sockets};
+use crate::node_type::NodeType;
 use crate::order::{Order, push_reserved};
 use crate::place::place;
 use indexmap::IndexSet;
@@ -59,12 +60,12 @@ impl Net {
         }
     }
 
-    /// Adds a node with default parameters and no wire, of the type that `kind` names.
+    /// Adds a node with default parameters and no wire, of the type of this word.
     ///
     /// Refusals, in this order: `BadName`, `NameTaken`, `NoType`, `Limit`.
-    pub fn add(&mut self, kind: &str, name: &str) -> Result<NodeId, NetEnd>
-        ensures ok { IfOk result (λ id. (added_node self.old kind.now name.now ≡ Ok self.new) × (id ≡ self.old.added)) }
-        ensures refused { IfErr result (λ end. (end ≡ NetEnd.Memory) ⊎ (added_node self.old kind.now name.now ≡ Err end)) }
+    pub fn add(&mut self, word: &str, name: &str) -> Result<NodeId, NetEnd>
+        ensures ok { IfOk result (λ id. (added_node self.old word.now name.now ≡ Ok self.new) × (id ≡ self.old.added)) }
+        ensures refused { IfErr result (λ end. (end ≡ NetEnd.Memory) ⊎ (added_node self.old word.now name.now ≡ Err end)) }
         ensures err { OnErr result (self.new ≡ self.old) }
     {
         if !is_name(name.as_bytes()) {
@@ -73,26 +74,26 @@ impl Net {
         if self.place_named(name).is_some() {
             return Err(NetEnd::NameTaken);
         }
-        let Some(kind) = NodeType::of_word(kind) else {
+        let Some(node_type) = NodeType::of_word(word) else {
             return Err(NetEnd::NoType);
         };
         if self.nodes.len() >= 1024 || self.added == u64::MAX {
             return Err(NetEnd::Limit);
         }
-        Ok(self.push_node(kind, name)?)
+        Ok(self.push_node(node_type, name)?)
     }
 
     /// Adds a node of a new name, where there is room for it.
-    fn push_node(&mut self, kind: NodeType, name: &str) -> Result<NodeId, AllocError>
+    fn push_node(&mut self, node_type: NodeType, name: &str) -> Result<NodeId, AllocError>
         requires name { IsTrue (is_name name.now) }
         requires free { place_named self.old.nodes name.now ≡ None }
         requires few { length self.old.nodes < 1024 }
         requires added { self.old.added < 18446744073709551615 }
-        ensures ok { IfOk result (λ id. (self.new ≡ with_node self.old kind name.now) × (id ≡ self.old.added)) }
+        ensures ok { IfOk result (λ id. (self.new ≡ with_node self.old node_type name.now) × (id ≡ self.old.added)) }
         ensures err { OnErr result (self.new ≡ self.old) }
     {
         let id = NodeId::of_number(self.added);
-        let node = Node::new(self.alloc, id, kind, name)?;
+        let node = Node::new(self.alloc, id, node_type, name)?;
         let key = String::from_str(self.alloc, name)?;
         self.nodes.reserve(1)?;
         self.order.reserve_one()?;
@@ -114,7 +115,7 @@ impl Net {
         let Some(at) = self.place_named(node) else {
             return Err(NetEnd::NoNode);
         };
-        let edit = staged(self.alloc, self.nodes[at].kind, parm, value)?;
+        let edit = staged(self.alloc, self.nodes[at].node_type, parm, value)?;
         let node = &mut self.nodes[at];
         node.parms.set(edit.at, edit.text);
         Ok(())
@@ -133,7 +134,7 @@ impl Net {
         let Some(at) = self.place_named(node) else {
             return Err(NetEnd::NoNode);
         };
-        let edits = staged_pairs(self.alloc, self.nodes[at].kind, pairs.as_slice())?;
+        let edits = staged_pairs(self.alloc, self.nodes[at].node_type, pairs.as_slice())?;
         let node = &mut self.nodes[at];
         node.parms.edit(edits);
         Ok(())
@@ -225,11 +226,11 @@ impl Net {
     }
 
     /// The type of a node that stands.
-    pub fn kind(&self, node: NodeId) -> NodeType
+    pub fn node_type(&self, node: NodeId) -> NodeType
         requires { IsLive self.now.nodes node }
-        ensures { option_map (λ n. n.kind) (node_of self.now.nodes node) ≡ Some result }
+        ensures { option_map (λ n. n.node_type) (node_of self.now.nodes node) ≡ Some result }
     {
-        self.at(node).kind
+        self.at(node).node_type
     }
 
     /// The source that is wired into an input of a node that stands.
@@ -251,10 +252,37 @@ impl Net {
         }
     }
 
+    /// The wires that a node uses, by input number: of a switch the one into the input that it takes, of every other node all.
+    pub fn used_wires(&self, node: NodeId) -> &[Option<NodeId>]
+        requires { IsLive self.now.nodes node }
+        ensures { result.now ≡ used_wires (node_of self.now.nodes node) }
+    {
+        self.at(node).used_wires()
+    }
+
+    /// The inputs that a node uses, at most 32: of a switch the one that it takes, of every other node all.
+    pub fn sockets(&self, node: NodeId) -> Sockets<'_>
+        requires { IsLive self.now.nodes node }
+        ensures sockets { option_map sockets_of (node_of self.now.nodes node) ≡ Some (sockets_from result.first result.are_needed result.wires.now) }
+        ensures wires { result.wires.now ≡ used_wires (node_of self.now.nodes node) }
+        ensures few { result.first + length result.wires.now ≤ 32 }
+    {
+        self.at(node).sockets()
+    }
+
+    /// The name of the file that a node loads. The node stands and is a `file` node.
+    pub fn file_name(&self, node: NodeId) -> &str
+        requires live { IsLive self.now.nodes node }
+        requires file { option_map (λ n. n.node_type) (node_of self.now.nodes node) ≡ Some NodeType.File }
+        ensures { file_of self.now.nodes node ≡ Some result.now }
+    {
+        self.at(node).file_name()
+    }
+
     /// The input that a switch takes, 0 to 31. The node stands and is a switch.
     pub fn switch_input(&self, node: NodeId) -> u32
         requires live { IsLive self.now.nodes node }
-        requires switch { option_map (λ n. n.kind) (node_of self.now.nodes node) ≡ Some NodeType.Switch }
+        requires switch { option_map (λ n. n.node_type) (node_of self.now.nodes node) ≡ Some NodeType.Switch }
         ensures value { option_map switch_input (node_of self.now.nodes node) ≡ Some result }
         ensures range { result < 32 }
     {

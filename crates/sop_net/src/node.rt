@@ -6,7 +6,7 @@ ghost use Rattle.sop_net.specs.Network.{wire_at};
 ghost use Rattle.sop_net.specs.Steps.{unless_from};
 
 use crate::edit::Edit;
-use crate::kind::NodeType;
+use crate::node_type::NodeType;
 use crate::value::read_whole;
 use sop_outside::Text;
 use std::alloc::{AllocError, Global};
@@ -139,10 +139,10 @@ impl Parms {
     }
 
     /// The parameters of a new node.
-    pub(crate) fn defaults(alloc: Global, kind: NodeType) -> Result<Parms, AllocError>
-        ensures { IfOk result (λ parms. parms ≡ default_parms kind) }
+    pub(crate) fn defaults(alloc: Global, node_type: NodeType) -> Result<Parms, AllocError>
+        ensures { IfOk result (λ parms. parms ≡ default_parms node_type) }
     {
-        let rows = kind.row().parms;
+        let rows = node_type.row().parms;
         let mut texts = Vec::with_capacity(alloc, rows.len())?;
         for parm in rows {
             texts.push(Text::from_str(alloc, parm.default)?)?;
@@ -168,41 +168,53 @@ impl Parms {
     }
 }
 
+/// The inputs that a node uses, by rising number.
+pub struct Sockets<'a> {
+    /// The number of the first.
+    pub first: u32,
+    /// Whether they must be wired.
+    pub are_needed: bool,
+    /// The source of each one's wire, or none.
+    pub wires: &'a [Option<NodeId>],
+}
+
 /// A node.
 #[derive(Debug, Drop)]
 pub struct Node {
     pub number: NodeId,
     pub name: Text,
-    pub kind: NodeType,
+    pub node_type: NodeType,
     pub parms: Parms,
     pub wires: WireList,
 }
 
 impl Node {
     ghost use Rattle.sop_net.specs.Network.{new_node, IsNodeOf, switch_input, wires_used_by};
+    ghost use Rattle.sop_net.specs.Sockets.{first_used, needs_inputs};
+    ghost use Rattle.sop_net.specs.Needs.{file_of_node};
 
     /// A node with default parameters and no wire.
     pub(crate) fn new(
         alloc: Global,
         number: NodeId,
-        kind: NodeType,
+        node_type: NodeType,
         name: &str,
     ) -> Result<Node, AllocError>
-        ensures { IfOk result (λ node. node ≡ new_node number kind name.now) }
+        ensures { IfOk result (λ node. node ≡ new_node number node_type name.now) }
     {
         Ok(Node {
             number,
             name: Text::from_str(alloc, name)?,
-            kind,
-            parms: Parms::defaults(alloc, kind)?,
-            wires: WireList::unwired(alloc, kind.inputs())?,
+            node_type,
+            parms: Parms::defaults(alloc, node_type)?,
+            wires: WireList::unwired(alloc, node_type.inputs())?,
         })
     }
 
     /// The input that a switch takes.
     pub(crate) fn switch_input(&self) -> usize
         requires node { IsNodeOf self.now }
-        requires switch { self.now.kind ≡ NodeType.Switch }
+        requires switch { self.now.node_type ≡ NodeType.Switch }
         ensures value { result ≡ switch_input self.now }
         ensures range { result < 32 }
     {
@@ -215,14 +227,49 @@ impl Node {
     /// The wires that the node uses: of a switch the one into the input that it takes, of every other node all.
     pub(crate) fn used_wires(&self) -> &[Option<NodeId>]
         requires { IsNodeOf self.now }
-        ensures { result.now ≡ wires_used_by self.now.kind self.now }
+        ensures { result.now ≡ wires_used_by self.now.node_type self.now }
     {
-        match self.kind {
+        match self.node_type {
             NodeType::Switch => {
                 let input = self.switch_input();
                 &self.wires.as_slice()[input..input + 1]
             }
             _ => self.wires.as_slice(),
         }
+    }
+
+    /// The number of the first input that the node uses.
+    fn first_used(&self) -> usize
+        requires { IsNodeOf self.now }
+        ensures value { result ≡ first_used self.now.node_type self.now }
+        ensures range { result < 32 }
+    {
+        match self.node_type {
+            NodeType::Switch => self.switch_input(),
+            _ => 0,
+        }
+    }
+
+    /// The inputs that the node uses.
+    pub(crate) fn sockets(&self) -> Sockets<'_>
+        requires { IsNodeOf self.now }
+        ensures first { result.first ≡ first_used self.now.node_type self.now }
+        ensures needed { result.are_needed ≡ needs_inputs self.now.node_type }
+        ensures wires { result.wires.now ≡ wires_used_by self.now.node_type self.now }
+    {
+        Sockets {
+            first: self.first_used() as u32,
+            are_needed: !self.node_type.is_optional(),
+            wires: self.used_wires(),
+        }
+    }
+
+    /// The name of the file that a `file` node loads.
+    pub(crate) fn file_name(&self) -> &str
+        requires node { IsNodeOf self.now }
+        requires file { self.now.node_type ≡ NodeType.File }
+        ensures { file_of_node (Some self.now) ≡ Some result.now }
+    {
+        self.parms.text(0)
     }
 }

@@ -40,7 +40,7 @@ fn file_of(net: &Net, node: NodeId) -> Option<&str>
     requires { IsLive net.now.nodes node }
 {
     net.is_network();
-    match net.kind(node) {
+    match net.node_type(node) {
         NodeType::File => Some(net.parms(node).text(0)),
         _ => None,
     }
@@ -50,7 +50,7 @@ fn file_of(net: &Net, node: NodeId) -> Option<&str>
 fn input_of(net: &Net, node: NodeId) -> Option<u32>
     requires { IsLive net.now.nodes node }
 {
-    match net.kind(node) {
+    match net.node_type(node) {
         NodeType::Switch => Some(net.switch_input(node)),
         _ => None,
     }

@@ -22,8 +22,8 @@ use Rattle.sop_model.specs.Merge.{merged}
 use Rattle.geo_text.specs.ObjReading.{Refusal, obj_geo}
 use Rattle.geo_text.specs.ObjForm.{has_first_form}
 use Rattle.sop_net.specs.declared.node.Node.{Node}
-use Rattle.sop_net.specs.declared.kind.NodeType.{NodeType}
-use Rattle.sop_net.specs.declared.kind.NodeType.TheVariants as type
+use Rattle.sop_net.specs.declared.node_type.NodeType.{NodeType}
+use Rattle.sop_net.specs.declared.node_type.NodeType.TheVariants as type
 use Rattle.sop_net.specs.Network.{node_of, wired, wire_at, parm_at, switch_input, used_wires, wires_used_by, used_sources}
 use Rattle.sop_net.specs.Needs.{walk, needed, file_of, file_of_node, file_of_type}
 use Rattle.sop_net.proofs.UsedLemmas.{first_is, further, wired_at}
@@ -121,8 +121,8 @@ file_own (Bytes bytes) h = absurd (by (has_first_form bytes) h)
 file_own Missing h = refl
 file_own TooLong h = let no : ⊥ = cc in absurd no
 
-type_blame : (go : ℕ → Outcome) (files : FileMap) (P : Type 0) (x : ℕ) (n : Node) (kind : NodeType) → (kind ≡ type.File → files (parm_at n.parms 0) ≡ Missing → P)
-    → ((source : ℕ) → Contains (wired (wires_used_by kind n)) source → Blames go P source) → (f : Failure) → visit_type go files x n kind ≡ Err f → f.fault ≡ fault.NoFile → P
+type_blame : (go : ℕ → Outcome) (files : FileMap) (P : Type 0) (x : ℕ) (n : Node) (node_type : NodeType) → (node_type ≡ type.File → files (parm_at n.parms 0) ≡ Missing → P)
+    → ((source : ℕ) → Contains (wired (wires_used_by node_type n)) source → Blames go P source) → (f : Failure) → visit_type go files x n node_type ≡ Err f → f.fault ≡ fault.NoFile → P
 type_blame go files P x n type.File own each f h is = own refl (file_own (files (parm_at n.parms 0)) (own_blame x (file_geo (files (parm_at n.parms 0))) f h is))
 type_blame go files P x n type.Merge own each f h is = merge_blame go P x n.wires each f h is
 type_blame go files P x n type.Null own each f h is = given_blame go P x 0 (wire_at n.wires 0) (λ source e. each source (wired_at n.wires 0 source e)) f h is
@@ -131,11 +131,11 @@ type_blame go files P x n type.Switch own each f h is =
 type_blame go files P x n other own each f h is =
     let bad : Err fault.NotYet ≡ Err fault.NoFile = own_blame x (Err fault.NotYet) f h is in let no : ⊥ = cc in absurd no
 
-visit_blame : (go : ℕ → Outcome) (files : FileMap) (P : Type 0) (x : ℕ) (found : Option Node) → ((n : Node) → found ≡ Some n → n.kind ≡ type.File → files (parm_at n.parms 0) ≡ Missing → P)
+visit_blame : (go : ℕ → Outcome) (files : FileMap) (P : Type 0) (x : ℕ) (found : Option Node) → ((n : Node) → found ≡ Some n → n.node_type ≡ type.File → files (parm_at n.parms 0) ≡ Missing → P)
     → ((source : ℕ) → Contains (wired (used_wires found)) source → Blames go P source) → (f : Failure) → visit go files x found ≡ Err f → f.fault ≡ fault.NoFile → P
 visit_blame go files P x None own each f h is =
     let bad : Err fault.NotYet ≡ Err fault.NoFile = own_blame x (Err fault.NotYet) f h is in let no : ⊥ = cc in absurd no
-visit_blame go files P x (Some n) own each f h is = type_blame go files P x n n.kind (own n refl) each f h is
+visit_blame go files P x (Some n) own each f h is = type_blame go files P x n n.node_type (own n refl) each f h is
 
 missed_above : (files : FileMap) (nodes : List Node) (depth x source : ℕ) → Contains (used_sources nodes x) source → IsMissed files nodes (walk depth nodes source) → IsMissed files nodes (walk (suc depth) nodes x)
 missed_above files nodes depth x source used m = record {
@@ -151,11 +151,11 @@ missed_within files nodes zero x f h is =
     let bad : Err fault.NotYet ≡ Err fault.NoFile = own_blame x (Err fault.NotYet) f h is in let no : ⊥ = cc in absurd no
 missed_within files nodes (suc depth) x f h is =
     visit_blame (cooked depth files nodes) files (IsMissed files nodes (walk (suc depth) nodes x)) x (node_of nodes x)
-    (λ n found kind missing. record {
+    (λ n found node_type missing. record {
       node = x;
       here = Contains-append_right (flat_map (walk depth nodes) (used_sources nodes x)) (x ∷ []) x (contains_first x []);
       name = parm_at n.parms 0;
-      file = ap file_of_node found ∙ ap (λ k. file_of_type k n) kind;
+      file = ap file_of_node found ∙ ap (λ k. file_of_type k n) node_type;
       missing = missing;
     })
     (λ source used e gave no_file. missed_above files nodes depth x source used (missed_within files nodes depth source e gave no_file))

@@ -12,8 +12,8 @@ use Rattle.std.proofs.lemmas.Bool.{false≢true}
 use Rattle.std.proofs.lemmas.List.Folds.{Any-from_list_any}
 use Rattle.std.proofs.lemmas.Slice.Eq.{bytes_eq-Decides}
 use Rattle.sop_outside.specs.Load.{Names}
-use Rattle.sop_net.specs.declared.kind.NodeType.{NodeType}
-use Rattle.sop_net.specs.declared.kind.NodeType.TheVariants as type
+use Rattle.sop_net.specs.declared.node_type.NodeType.{NodeType}
+use Rattle.sop_net.specs.declared.node_type.NodeType.TheVariants as type
 use Rattle.sop_net.specs.declared.node.Node.{Node}
 use Rattle.sop_net.specs.Network.{node_of, used_sources, parm_at, IsLive}
 use Rattle.sop_net.specs.Needs.{walk, file_of, file_of_node, file_of_type, is_file_named, listed, with_file, first_files, needed}
@@ -141,7 +141,7 @@ same_cooked : (f g : FileMap) (nodes : List Node) (depth x : ℕ) → ((y : ℕ)
 same_cooked f g nodes zero x same = refl
 same_cooked f g nodes (suc depth) x same =
     same_visit (cooked depth f nodes) (cooked depth g nodes) f g x (node_of nodes x)
-    (λ n found kind. same x (parm_at n.parms 0) (Contains-append_right (flat_map (walk depth nodes) (used_sources nodes x)) (x ∷ []) x (contains_first x [])) (ap file_of_node found ∙ ap (λ k. file_of_type k n) kind))
+    (λ n found node_type. same x (parm_at n.parms 0) (Contains-append_right (flat_map (walk depth nodes) (used_sources nodes x)) (x ∷ []) x (contains_first x [])) (ap file_of_node found ∙ ap (λ k. file_of_type k n) node_type))
     (λ source used. same_cooked f g nodes depth source (λ y name here is.
     same y name (Contains-append_left (flat_map (walk depth nodes) (used_sources nodes x)) (x ∷ []) y (contains_flat (walk depth nodes) (used_sources nodes x) source y used here)) is))
 
@@ -158,12 +158,12 @@ file_live nodes x h = by (node_of nodes x) h
     by None e = e
     by (Some n) e = refl
 
-file_kind : (n : Node) (kind : NodeType) → n.kind ≡ kind → IsTrue (is_some (file_of_type kind n)) → n.kind ≡ type.File
+file_kind : (n : Node) (node_type : NodeType) → n.node_type ≡ node_type → IsTrue (is_some (file_of_type node_type n)) → n.node_type ≡ type.File
 file_kind n type.File is h = is
 file_kind n other is h = let no : ⊥ = cc in absurd no
 
-pub file_is_file : (nodes : List Node) (x : ℕ) (n : Node) → IsFileNode nodes x → node_of nodes x ≡ Some n → n.kind ≡ type.File
-file_is_file nodes x n h found = file_kind n n.kind refl (subst (λ f. IsTrue (is_some (file_of_node f))) found h)
+pub file_is_file : (nodes : List Node) (x : ℕ) (n : Node) → IsFileNode nodes x → node_of nodes x ≡ Some n → n.node_type ≡ type.File
+file_is_file nodes x n h found = file_kind n n.node_type refl (subst (λ f. IsTrue (is_some (file_of_node f))) found h)
 
 pub file_told : (nodes : List Node) (x : ℕ) (texts : List (List ℕ)) (text : List ℕ) → IsFileNode nodes x → option_map (λ n. n.parms) (node_of nodes x) ≡ Some texts → slice_get texts 0 ≡ Some text
     → file_of nodes x ≡ Some text

@@ -1,6 +1,6 @@
 use Rattle.std.proofs.Common.{◌<◌, sym, ◌∙◌, ap, subst, arith, length, Err, ◌+◌}
 use Rattle.sop_net.specs.Network.{node_of, parm_at, switch_input, wire_at, used_wires}
-use Rattle.sop_net.specs.declared.kind.NodeType.TheVariants as type
+use Rattle.sop_net.specs.declared.node_type.NodeType.TheVariants as type
 use Rattle.sop_cook.specs.SerialCook.{cook_of, file_geo, merge_geo, gathered, given}
 use Rattle.sop_cook.specs.Loads.{file_in}
 use Rattle.sop_cook.specs.Keeping.{IsKept, Tells, TellsAll, TellsMade}
@@ -98,7 +98,7 @@ give_input-give-requires t c =
 
 pub make-text-requires : goal.make-text-requires
 make-text-requires t c =
-    let r = read_node c.args.net.now.nodes c.args.node (λ n. n.kind) c.kind.result c.kind.ensures in
+    let r = read_node c.args.net.now.nodes c.args.node (λ n. n.node_type) c.node_type.result c.node_type.ensures in
     let fits = node_fits c.args.net.now.nodes c.args.node r.node c.is_network.ensures.network.nodes r.found in
     subst (λ texts. 0 < length texts) (read_found c.args.net.now.nodes c.args.node r.node (λ n. n.parms) c.parms.result.now r.found c.parms.ensures) (file_parms r.node (r.is ∙ c.in-File.is) fits)
 
@@ -115,7 +115,7 @@ pub make-returns-in-File-clause-tells : goal.make-returns-in-File-clause-tells
 make-returns-in-File-clause-tells t c =
     let files = file_in c.args.loaded.now in
     let go = cook_of files c.args.net.now.nodes in
-    let r = read_node c.args.net.now.nodes c.args.node (λ n. n.kind) c.kind.result c.kind.ensures in
+    let r = read_node c.args.net.now.nodes c.args.node (λ n. n.node_type) c.node_type.result c.node_type.ensures in
     let texts = read_found c.args.net.now.nodes c.args.node r.node (λ n. n.parms) c.parms.result.now r.found c.parms.ensures in
     let name = first_parm c.parms.result.now c.text.result.now c.text.ensures ∙ ap (λ ts. parm_at ts 0) (sym texts) in
     told_visit files c.args.net.now.nodes c.args.node r.node (c.is_network.ensures.within_used c.args.node c.requires.live) r.found c.made_at.result
@@ -126,11 +126,11 @@ pub make-returns-in-Ok-clause-tells : goal.make-returns-in-Ok-clause-tells
 make-returns-in-Ok-clause-tells t c =
     let files = file_in c.args.loaded.now in
     let go = cook_of files c.args.net.now.nodes in
-    let r = read_node c.args.net.now.nodes c.args.node (λ n. n.kind) c.kind.result c.kind.ensures in
-    let kind = r.is ∙ c.in-Merge.is in
-    let wires = wires_used c.args.net.now.nodes c.args.node r.node type.Merge r.found kind in
+    let r = read_node c.args.net.now.nodes c.args.node (λ n. n.node_type) c.node_type.result c.node_type.ensures in
+    let node_type = r.is ∙ c.in-Merge.is in
+    let wires = wires_used c.args.net.now.nodes c.args.node r.node type.Merge r.found node_type in
     told_visit files c.args.net.now.nodes c.args.node r.node (c.is_network.ensures.within_used c.args.node c.requires.live) r.found c.made_at-in-Ok.result
-    (visit_known go files c.args.node r.node type.Merge c.made_at-in-Ok.result kind
+    (visit_known go files c.args.node r.node type.Merge c.made_at-in-Ok.result node_type
     (tells_merge go c.args.node r.node.wires c.in-Ok.inputs.items c.made_at-in-Ok.result (ap (gathered go) (sym wires) ∙ c.in-Ok.ensures.tells)
     (c.made_at-in-Ok.ensures.tells (merge_geo c.in-Ok.inputs.items) c.merge.ensures.tells)))
 
@@ -138,33 +138,33 @@ pub make-returns-in-Err-clause-tells : goal.make-returns-in-Err-clause-tells
 make-returns-in-Err-clause-tells t c =
     let files = file_in c.args.loaded.now in
     let go = cook_of files c.args.net.now.nodes in
-    let r = read_node c.args.net.now.nodes c.args.node (λ n. n.kind) c.kind.result c.kind.ensures in
-    let kind = r.is ∙ c.in-Merge.is in
-    let wires = wires_used c.args.net.now.nodes c.args.node r.node type.Merge r.found kind in
+    let r = read_node c.args.net.now.nodes c.args.node (λ n. n.node_type) c.node_type.result c.node_type.ensures in
+    let node_type = r.is ∙ c.in-Merge.is in
+    let wires = wires_used c.args.net.now.nodes c.args.node r.node type.Merge r.found node_type in
     told_visit files c.args.net.now.nodes c.args.node r.node (c.is_network.ensures.within_used c.args.node c.requires.live) r.found (Err c.in-Err.end)
-    (visit_known go files c.args.node r.node type.Merge (Err c.in-Err.end) kind
+    (visit_known go files c.args.node r.node type.Merge (Err c.in-Err.end) node_type
     (tells_unmerged go c.args.node r.node.wires c.in-Err.end (subst (λ w. TellsAll (gathered go w) (Err c.in-Err.end)) wires c.in-Err.ensures.tells)))
 
 pub make-returns-in-Null-clause-tells : goal.make-returns-in-Null-clause-tells
 make-returns-in-Null-clause-tells t c =
     let files = file_in c.args.loaded.now in
     let go = cook_of files c.args.net.now.nodes in
-    let r = read_node c.args.net.now.nodes c.args.node (λ n. n.kind) c.kind.result c.kind.ensures in
-    let kind = r.is ∙ c.in-Null.is in
-    let wires = wires_used c.args.net.now.nodes c.args.node r.node type.Null r.found kind in
+    let r = read_node c.args.net.now.nodes c.args.node (λ n. n.node_type) c.node_type.result c.node_type.ensures in
+    let node_type = r.is ∙ c.in-Null.is in
+    let wires = wires_used c.args.net.now.nodes c.args.node r.node type.Null r.found node_type in
     told_visit files c.args.net.now.nodes c.args.node r.node (c.is_network.ensures.within_used c.args.node c.requires.live) r.found c.give_input.result
-    (visit_known go files c.args.node r.node type.Null c.give_input.result kind
+    (visit_known go files c.args.node r.node type.Null c.give_input.result node_type
     (subst (λ w. Tells (given go c.args.node 0 (wire_at w 0)) c.give_input.result) wires c.give_input.ensures.tells))
 
 pub make-returns-in-Switch-clause-tells : goal.make-returns-in-Switch-clause-tells
 make-returns-in-Switch-clause-tells t c =
     let files = file_in c.args.loaded.now in
     let go = cook_of files c.args.net.now.nodes in
-    let r = read_node c.args.net.now.nodes c.args.node (λ n. n.kind) c.kind.result c.kind.ensures in
-    let kind = r.is ∙ c.in-Switch.is in
-    let wires = wires_used c.args.net.now.nodes c.args.node r.node type.Switch r.found kind in
+    let r = read_node c.args.net.now.nodes c.args.node (λ n. n.node_type) c.node_type.result c.node_type.ensures in
+    let node_type = r.is ∙ c.in-Switch.is in
+    let wires = wires_used c.args.net.now.nodes c.args.node r.node type.Switch r.found node_type in
     let input = read_found c.args.net.now.nodes c.args.node r.node switch_input c.switch_input-input.result r.found c.switch_input-input.ensures.value in
     told_visit files c.args.net.now.nodes c.args.node r.node (c.is_network.ensures.within_used c.args.node c.requires.live) r.found c.give_input-in-Switch.result
-    (visit_known go files c.args.node r.node type.Switch c.give_input-in-Switch.result kind
+    (visit_known go files c.args.node r.node type.Switch c.give_input-in-Switch.result node_type
     (subst (λ i. Tells (given go c.args.node i (wire_at r.node.wires (switch_input r.node))) c.give_input-in-Switch.result) (sym input)
     (subst (λ w. Tells (given go c.args.node c.switch_input-input.result (wire_at w 0)) c.give_input-in-Switch.result) wires c.give_input-in-Switch.ensures.tells)))

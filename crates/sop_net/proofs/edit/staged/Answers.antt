@@ -5,14 +5,14 @@ use Rattle.sop_net.proofs.EditLemmas.{judged-none, judged-some}
 use Rattle.sop_net.proofs.edit.staged.Goals as goal
 
 pub returns-in_default-clause-refused : goal.returns-in_default-clause-refused
-returns-in_default-clause-refused c = inr (judged-none c.row.result.now.parms.now c.args.kind c.args.name.now c.args.value.now (ap (λ row. row.parms) c.row.ensures) (sym c.in_default.ensures))
+returns-in_default-clause-refused c = inr (judged-none c.row.result.now.parms.now c.args.node_type c.args.name.now c.args.value.now (ap (λ row. row.parms) c.row.ensures) (sym c.in_default.ensures))
 
 pub returns-then-not-takes-clause-refused : goal.returns-then-not-takes-clause-refused
 returns-then-not-takes-clause-refused c =
-    inr (judged-some c.row.result.now.parms.now c.args.kind c.args.name.now c.args.value.now (ap (λ row. row.parms) c.row.ensures) c.in-Some.at _ (sym c.in-Some.ensures) c.takes.result c.takes.ensures
+    inr (judged-some c.row.result.now.parms.now c.args.node_type c.args.name.now c.args.value.now (ap (λ row. row.parms) c.row.ensures) c.in-Some.at _ (sym c.in-Some.ensures) c.takes.result c.takes.ensures
     ∙ ap (λ b. if b then None else Some BadValue) c.if-not-takes.true)
 
 pub returns-clause-ok : goal.returns-clause-ok
 returns-clause-ok c =
-    judged-some c.row.result.now.parms.now c.args.kind c.args.name.now c.args.value.now (ap (λ row. row.parms) c.row.ensures) c.in-Some.at _ (sym c.in-Some.ensures) c.takes.result c.takes.ensures
+    judged-some c.row.result.now.parms.now c.args.node_type c.args.name.now c.args.value.now (ap (λ row. row.parms) c.row.ensures) c.in-Some.at _ (sym c.in-Some.ensures) c.takes.result c.takes.ensures
     ∙ ap (λ b. if b then None else Some BadValue) c.if-not-takes.false

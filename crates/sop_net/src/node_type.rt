@@ -85,7 +85,10 @@ impl NodeType {
     pub(crate) fn of_word(word: &str) -> Option<NodeType>
         ensures { result ≡ type_of_word word.now }
     {
-        TYPES.iter().copied().find(|kind| kind.word() == word)
+        TYPES
+            .iter()
+            .copied()
+            .find(|node_type| node_type.word() == word)
     }
 
     /// The row of the type in the table.
