@@ -101,6 +101,7 @@ def streams(program):
     files = {"s": quiet, "t": quiet + b"echo made it\n", "bad": b"opfoo\n", "a.obj": b"v 0 0 0\n"}
     point = b"v 0 0 0\n"
     for name, words, ending, wanted in [
+        ("a script on standard input", "/dev/stdin f", "<s", (0, point, b"")),
         ("a full standard output", "s f", ">/dev/full", (6, b"", b"")),
         ("a closed standard output", "s f", ">&-", (6, b"", b"")),
         ("a full standard output behind echoed text", "t f", ">/dev/full", (6, b"", b"made it\n")),
