@@ -5,3 +5,8 @@ pub mod PlainLemmas
 pub mod PlainMerge
 pub mod LimitsLemmas
 pub mod SampleLemmas
+pub mod RowLists
+pub mod ClassRows
+pub mod HeadLemmas
+pub mod RowSound
+pub mod RowOps

@@ -2,7 +2,7 @@
 --
 -- A change of values goes by the rows of a class: the new rows are given in the order of the elements, and all else stays. What is added
 -- stands at the end, with the default of its kind in each value and in no group.
-use Rattle.std.specs.Prelude.{◌≡◌, ℕ, zero, suc, ◌<◌, ◌==◌, Bool, false, List, [], ◌∷◌, ◌++◌, length, map, filter, drop, remove, replicate, All, position, slice_get, slice_set, slice_index_or, Option, Some, option_map, unwrap_or, pos, IsPermutation, ⊤}
+use Rattle.std.specs.Prelude.{◌≡◌, ℕ, zero, suc, ◌<◌, ◌==◌, Bool, false, List, [], ◌∷◌, ◌++◌, length, map, filter, drop, remove, replicate, All, position, slice_get, slice_set, slice_index_or, Option, Some, None, option_map, unwrap_or, IsTrue, pos, IsPermutation, ⊤}
 use Rattle.std.specs.List.{position_or_len, range_with_len}
 use Rattle.std.specs.Str.{bytes_eq}
 use Rattle.sop_model.specs.declared.class.Class.{Class}
@@ -16,6 +16,7 @@ use Rattle.sop_model.specs.declared.geo.Primitive.{Primitive}
 use Rattle.sop_model.specs.declared.value.Kind.{Kind}
 use Rattle.sop_model.specs.declared.value.Value.{Value}
 use Rattle.sop_model.specs.declared.value.Value.TheVariants as value
+use Rattle.sop_model.specs.Names.{is_name}
 use Rattle.sop_model.specs.Values.{kind_of, default_of}
 use Rattle.sop_model.specs.Vertices.{size_of}
 use Rattle.sop_model.specs.Geometry.{empty_row, heads_of, rows_of, count_of}
@@ -231,6 +232,15 @@ IsOfHead g class head v = kind_at g class head ≡ Some (kind_of v)
 pub record AreOfHead (g : Geo) (class : Class) (head : ℕ) (vs : List Value) : Type 0 where
   pub many : length vs ≡ count_of g class
   pub kinds : All (IsOfHead g class head) vs
+
+-- a name that no head of the class has, or no group
+pub record IsNewHead (g : Geo) (class : Class) (name : List ℕ) : Type 0 where
+  pub named : IsTrue (is_name name)
+  pub free : head_named g class name ≡ None
+
+pub record IsNewGroup (g : Geo) (class : Class) (name : List ℕ) : Type 0 where
+  pub named : IsTrue (is_name name)
+  pub free : group_named g class name ≡ None
 
 -- the class has groups at all
 abbrev pub HasGroups : Class → Type 0
