@@ -83,6 +83,29 @@ def wraps_documents(top):
     return few([place for place, _, line in lines_of(top, documents) if len(line) > WIDTH])
 
 
+def defines_what_it_lists(top):
+    """Each bullet of docs/DEFINITIONS.md names definitions, and in brackets the files in specs/ where they stand."""
+    with open(f"{top}/docs/DEFINITIONS.md", encoding="utf-8") as file:
+        parts = re.split(r"^(?=## |- )", file.read(), flags=re.MULTILINE)
+    crate, missing = "", []
+    for part in parts:
+        if part.startswith("## "):
+            crate = part[3:].strip()
+        if part.startswith("- "):
+            names, files = re.match(r"- (.*?) \(([\w, ]+)\):", " ".join(part.split())).groups()
+            text = "".join(read(f"{top}/crates/{crate}/specs/{name}.antt") for name in files.split(", "))
+            words = set(re.findall(r"[\w⊎×-]+", text))
+            missing += [f"{crate}: {name}" for name in re.findall(r"`([^`]+)`", names) if name not in words]
+    return few(missing)
+
+
+def read(path):
+    if not os.path.exists(path):
+        return ""
+    with open(path, encoding="utf-8") as file:
+        return file.read()
+
+
 def keeps_files_short(top):
     names = [name for name in committed(top) if name.endswith(CODE)]
     counts = {name: sum(1 for _ in lines_of(top, [name])) for name in names}
@@ -101,5 +124,6 @@ def checks(top):
         ("nothing is left undone", leaves_nothing_undone),
         ("no file of code has more than 800 lines", keeps_files_short),
         ("no line of a document has more than 100 columns", wraps_documents),
+        ("each listed definition stands in its file", defines_what_it_lists),
     ]:
         yield name, lambda check=check: check(top)
