@@ -10,3 +10,5 @@ pub mod ClassRows
 pub mod HeadLemmas
 pub mod RowSound
 pub mod RowOps
+pub mod ElementOps
+pub mod OrderOps

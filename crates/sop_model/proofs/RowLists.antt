@@ -1,7 +1,7 @@
 -- Lists: one item changed, one read and put back, one removed; what holds of each item of a mapped list.
-use Rattle.std.proofs.Common.{◌≡◌, ℕ, zero, suc, ◌<◌, List, [], ◌∷◌, length, map, take, drop, set, Some, refl, ap, ◌∙◌, subst, arith}
+use Rattle.std.proofs.Common.{◌≡◌, ℕ, zero, suc, ◌+◌, ◌<◌, List, [], ◌∷◌, ◌++◌, length, map, take, drop, set, Some, refl, ap, ◌∙◌, subst, arith}
 use Rattle.std.specs.Prelude.{slice_get, option_map, remove, All}
-use Rattle.std.proofs.lemmas.List.{get_or-map, length-map, map-append, take-map, drop-map}
+use Rattle.std.proofs.lemmas.List.{length-append, get_or_append_left, get_or-append-add, get_or-map, length-map, map-append, take-map, drop-map}
 use Rattle.std.proofs.lemmas.List.Elements.{All-cons, All-head, All-tail, All-append, All-take, All-drop}
 use Rattle.sop_model.specs.Rows.{changed_at}
 
@@ -26,6 +26,13 @@ module _ {X : Type 0} where
   slice_get-in [] i x is = cc
   slice_get-in (y ∷ xs) zero x is = omega arith
   slice_get-in (y ∷ xs) (suc i) x is = omega (arith, slice_get-in xs i x is)
+
+  -- what holds of each item of two lists in a row
+  pub All-left : (P : X → Type 0) (xs ys : List X) → All P (xs ++ ys) → All P xs
+  All-left P xs ys all k d lt = subst P (get_or_append_left xs ys d k lt) (all k d (omega (arith, length-append xs ys)))
+
+  pub All-right : (P : X → Type 0) (xs ys : List X) → All P (xs ++ ys) → All P ys
+  All-right P xs ys all k d lt = subst P (get_or-append-add xs ys k d) (all (length xs + k) d (omega (arith, length-append xs ys)))
 
   pub All-remove : (P : X → Type 0) (xs : List X) (i : ℕ) → All P xs → All P (remove xs i)
   All-remove P xs i all = All-append P (take i xs) (drop (suc i) xs) (All-take P i xs all) (All-drop P (suc i) xs all)
