@@ -1,7 +1,7 @@
 -- Square roots, cut to whole numbers: there is one, and `root_of` is it.
-use Rattle.std.proofs.Common.{◌≡◌, ℕ, ◌+◌, ◌*◌, ◌/◌, ◌^◌, ◌<◌, ◌≤◌, inl, inr, zero, suc, sym, subst, arith}
+use Rattle.std.proofs.Common.{◌≡◌, ℕ, ◌+◌, ◌*◌, ◌-◌, ◌/◌, ◌^◌, min, ◌<◌, ◌≤◌, inl, inr, zero, suc, sym, subst, arith}
 use Rattle.std.proofs.lemmas.Bool.{cases_lt}
-use Rattle.std.proofs.Math.Nat.{mul-le-mul, pow-succ'}
+use Rattle.std.proofs.Math.Nat.{div-lt_iff_lt-mul, mul-le-mul, mul-le-mul_left, pow-succ'}
 use Rattle.std.proofs.Common.{pos, Ok}
 use Rattle.std.specs.Prelude.{IsOkAnd}
 use Rattle.std.proofs.lemmas.Int.{ints}
@@ -25,13 +25,13 @@ root_next r n h =
       | inr over ↦ subst (IsRoot n) (sym (next_high r n over)) (record { within = over; next = omega (arith, high) })
     ]
 
-pub root_in_is : (digits n : ℕ) → n < 4 ^ digits → IsRoot n (root_in digits n)
+root_in_is : (digits n : ℕ) → n < 4 ^ digits → IsRoot n (root_in digits n)
 root_in_is zero n h = record { within = omega arith; next = omega (arith, h) }
 root_in_is (suc digits) n h =
     let e : 4 ^ suc digits ≡ 4 * 4 ^ digits = pow-succ' 4 digits in
     root_next (root_in digits (n / 4)) n (root_in_is digits (n / 4) (omega (arith, h, e)))
 
-pub root_of_is : (n : ℕ) → n ≤ 4000000000000000000000000000000 → IsRoot n (root_of n)
+root_of_is : (n : ℕ) → n ≤ 4000000000000000000000000000000 → IsRoot n (root_of n)
 unfolding root_of
 root_of_is n h = root_in_is 64 n (omega (arith, h))
 
@@ -43,7 +43,7 @@ not_less n r s a b less =
     omega (arith, most, next, within)
 
 -- a number has one root
-pub root_one : (n r s : ℕ) → IsRoot n r → IsRoot n s → r ≡ s
+root_one : (n r s : ℕ) → IsRoot n r → IsRoot n s → r ≡ s
 root_one n r s a b = elim (cases_lt r s) [
   | inl less ↦ absurd (not_less n r s a b less)
   | inr more ↦ elim (cases_lt s r) [
@@ -51,6 +51,10 @@ root_one n r s a b = elim (cases_lt r s) [
     | inr least ↦ omega (arith, more, least)
   ]
 ]
+
+-- so it is the one that is reckoned
+pub root_is : (n root : ℕ) → n ≤ 4000000000000000000000000000000 → IsRoot n root → root ≡ root_of n
+root_is n root within is = root_one n root (root_of n) is (root_of_is n within)
 
 root_small : (n root : ℕ) → root * root ≤ n → n ≤ 1000000000000000000000 → root ≤ 1000000000000000
 root_small n root h b = grind arith
@@ -60,3 +64,31 @@ real_of_size root h = grind arith
 
 pub sqrt_greatest : (n root : ℕ) → n ≤ 1000000000000000000000 → IsRoot n root → IsOkAnd (real_of (pos root)) (λ r. IsRootOf n r)
 sqrt_greatest n root b h = rw (real_of_size root (root_small n root h.within b)) (omega (arith, ints), h)
+
+-- of two numbers with a given middle the product is at most the square of the middle
+under_middle : (a b c : ℕ) → a ≤ c → a + b ≤ 2 * c → a * b ≤ c * c
+under_middle a b c low sum =
+    let e : c ≡ a + (c - a) = omega (arith, low) in
+    let most : a * b ≤ a * (a + 2 * (c - a)) = mul-le-mul_left a (omega (arith, low, sum)) in
+    subst (λ m. a * b ≤ m * m) (sym e) (omega (arith, most))
+
+product_under_middle : (a b c : ℕ) → a + b ≤ 2 * c → a * b ≤ c * c
+product_under_middle a b c sum = elim (cases_lt c a) [
+  | inr low ↦ under_middle a b c low sum
+  | inl high ↦ let swapped : b * a ≤ c * c = under_middle b a c (omega (arith, high, sum)) (omega (arith, sum)) in omega (arith, swapped)
+]
+
+-- Newton's step from x isn't below the root of n
+newton_above : (n x : ℕ) → 0 < x → n < ((x + n / x) / 2 + 1) * ((x + n / x) / 2 + 1)
+newton_above n x some =
+    let over : n < (n / x + 1) * x = (div-lt_iff_lt-mul {k = x} {x = n} {y = n / x + 1} some).0 (omega arith) in
+    let middle : n / x + 1 + x ≤ 2 * ((x + n / x) / 2 + 1) = omega arith in
+    let under : (n / x + 1) * x ≤ ((x + n / x) / 2 + 1) * ((x + n / x) / 2 + 1) = product_under_middle (n / x + 1) x ((x + n / x) / 2 + 1) middle in
+    omega (arith, over, under)
+
+-- nor is it where it stops at the root of the greatest n
+pub newton_capped : (n x step : ℕ) → 0 < x → n ≤ 4000000000000000000000000000000 → step ≡ min ((x + n / x) / 2) 2000000000000000 → n < (step + 1) * (step + 1)
+newton_capped n x step some within is = elim (cases_lt 2000000000000000 ((x + n / x) / 2)) [
+  | inl over ↦ let e : step ≡ 2000000000000000 = omega (arith, is, over) in subst (λ k. n < (k + 1) * (k + 1)) (sym e) (omega (arith, within))
+  | inr under ↦ let e : step ≡ (x + n / x) / 2 = omega (arith, is, under) in subst (λ k. n < (k + 1) * (k + 1)) (sym e) (newton_above n x some)
+]

@@ -7,6 +7,7 @@ pub mod int;
 pub mod numeral;
 pub mod real;
 mod sizes;
+mod square_root;
 pub mod vec3;
 pub mod whole;
 

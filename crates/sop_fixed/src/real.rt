@@ -7,7 +7,8 @@ ghost use Rattle.sop_fixed.specs.Numbers.{signed, is_negative, nearest, real_of,
 
 use crate::fault::NumFault;
 use crate::int::Int;
-use crate::sizes::{nearest, product, root};
+use crate::sizes::{nearest, product};
+use crate::square_root::root;
 use std::marker::Model;
 
 /// The greatest size of a number, in millionths.

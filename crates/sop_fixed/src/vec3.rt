@@ -4,7 +4,7 @@ ghost use Rattle.sop_fixed.specs.Roots.{IsRootOf, length_of, square};
 
 use crate::fault::NumFault;
 use crate::real::Real;
-use crate::sizes::root;
+use crate::square_root::root;
 
 /// A place or a direction in space, in millionths along each axis.
 #[derive(Clone, Copy, Debug, PartialEq, Eq, Hash)]
