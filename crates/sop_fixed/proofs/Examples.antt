@@ -1,10 +1,10 @@
 -- Worked examples: what the definitions say of texts and numbers, by computation.
-use Rattle.std.specs.Prelude.{◌≡◌, refl, pos, negsuc, Ok, Err, codes}
+use Rattle.std.specs.Prelude.{◌≡◌, refl, pos, negsuc, Ok, Err, Some, None, codes}
 use Rattle.std.specs.Fmt.{digits}
 use Rattle.sop_fixed.specs.Arithmetic.{sum_of, product_of, quotient_of, remainder_of, floor_of, units_of, fit_of, int_sum_of, int_difference_of, int_product_of, int_quotient_of, real_of_int}
 use Rattle.sop_fixed.specs.Numbers.{real_of, int_of}
 use Rattle.sop_fixed.specs.Roots.{root_of, sqrt_of, length_of}
-use Rattle.sop_fixed.specs.Numerals.{value_of, decimal_of}
+use Rattle.sop_fixed.specs.Numerals.{value_of, decimal_of, whole_number_of, number_in}
 use Rattle.sop_fixed.specs.declared.fault.NumeralFault.TheVariants.{NotNumeral, OutOfRange}
 use Rattle.sop_fixed.specs.declared.fault.NumFault.TheVariants.{Range, DivZero}
 
@@ -259,3 +259,29 @@ greatest_int_as_real = refl
 
 int_above_real : real_of_int (negsuc 1000000000) ≡ Err Range
 int_above_real = refl
+
+-- whole-number texts
+
+whole_with_minus : whole_number_of (codes "-007") ≡ Ok (negsuc 6)
+whole_with_minus = refl
+
+whole_minus_zero : whole_number_of (codes "-0") ≡ Ok (pos 0)
+whole_minus_zero = refl
+
+whole_smallest : whole_number_of (codes "-2147483648") ≡ Ok (negsuc 2147483647)
+whole_smallest = refl
+
+whole_too_large : whole_number_of (codes "2147483648") ≡ Err OutOfRange
+whole_too_large = refl
+
+whole_plus : whole_number_of (codes "+1") ≡ Err NotNumeral
+whole_plus = refl
+
+whole_minus_alone : whole_number_of (codes "-") ≡ Err NotNumeral
+whole_minus_alone = refl
+
+digits_few : number_in 4 (codes "0042") ≡ Some 42
+digits_few = refl
+
+digits_many : number_in 4 (codes "00042") ≡ None
+digits_many = refl

@@ -2,13 +2,13 @@
 use Rattle.std.specs.Prelude.{◌≡◌, ◌*◌, ◌≤◌, Bool, not, if◌then◌else◌, nat_eq, ℤ, pos, ◌+ℤ◌, ◌-ℤ◌, ◌*ℤ◌, ◌≤ℤ◌, ◌<ℤ◌, unsigned_abs, int_div, Result, Ok, Err}
 use Rattle.std.specs.Bool.{beq}
 use Rattle.std.specs.Int.{int_max, int_min, int_rem_euclid}
-use Rattle.sop_fixed.specs.Numbers.{signed, is_negative, nearest, real_of, int_of}
+use Rattle.sop_fixed.specs.Numbers.{signed, is_negative, nearest, real_of, int_of, unit_size}
 use Rattle.sop_fixed.specs.declared.fault.NumFault.{NumFault}
 use Rattle.sop_fixed.specs.declared.fault.NumFault.TheVariants.{DivZero}
 
 -- The millionths of one unit.
 abbrev pub unit : ℤ
-unit = pos 1000000
+unit = pos unit_size
 
 abbrev pub is_zero : ℤ → Bool
 is_zero x = nat_eq (unsigned_abs x) 0

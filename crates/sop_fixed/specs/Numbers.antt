@@ -11,6 +11,10 @@ signed false size = pos size
 abbrev pub is_negative : ℤ → Bool
 is_negative x = int_lt x (pos 0)
 
+-- The millionths of one unit.
+abbrev pub unit_size : ℕ
+unit_size = 1000000
+
 -- A Real is a whole number of millionths of at most this size: 10 ^ 15.
 abbrev pub largest_size : ℕ
 largest_size = 1000000000000000

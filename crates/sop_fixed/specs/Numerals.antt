@@ -2,7 +2,7 @@
 use Rattle.std.specs.Prelude.{ℕ, ◌+◌, ◌-◌, ◌*◌, ◌/◌, ◌%◌, ◌^◌, Bool, true, false, if◌then◌else◌, ◌&&◌, ◌||◌, not, nat_le, nat_lt, ◌==◌, List, [], ◌∷◌, ◌++◌, length, take, replicate, ℤ, unsigned_abs, Option, Some, None, Result, Ok, Err, is_some, position, decimal}
 use Rattle.std.specs.List.{list_all, before_first, after_first, suffix_len}
 use Rattle.std.specs.Char.{is_ascii_digit}
-use Rattle.sop_fixed.specs.Numbers.{signed, is_negative, is_real, is_int, nearest}
+use Rattle.sop_fixed.specs.Numbers.{signed, is_negative, is_real, is_int, nearest, unit_size}
 use Rattle.sop_fixed.specs.declared.fault.NumeralFault.{NumeralFault}
 use Rattle.sop_fixed.specs.declared.fault.NumeralFault.TheVariants.{NotNumeral, OutOfRange}
 
@@ -125,5 +125,5 @@ sign_text false = []
 abbrev pub decimal_of : ℤ → List ℕ
 decimal_of x =
     sign_text (is_negative x)
-    ++ decimal (unsigned_abs x / 1000000)
-    ++ fraction_text (without_last_zeros (six_digits (unsigned_abs x % 1000000)))
+    ++ decimal (unsigned_abs x / unit_size)
+    ++ fraction_text (without_last_zeros (six_digits (unsigned_abs x % unit_size)))

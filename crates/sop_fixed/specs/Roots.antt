@@ -1,6 +1,6 @@
 -- Square roots, cut to whole numbers.
 use Rattle.std.specs.Prelude.{ℕ, ◌+◌, ◌*◌, ◌/◌, ◌<◌, ◌≤◌, if◌then◌else◌, nat_le, zero, suc, ℤ, pos, ◌≤ℤ◌, unsigned_abs, Result, Err}
-use Rattle.sop_fixed.specs.Numbers.{is_negative, real_of}
+use Rattle.sop_fixed.specs.Numbers.{is_negative, real_of, unit_size}
 use Rattle.sop_fixed.specs.declared.fault.NumFault.{NumFault}
 use Rattle.sop_fixed.specs.declared.fault.NumFault.TheVariants.{Range}
 
@@ -28,7 +28,7 @@ root_of n = root_in 64 n
 
 -- The root of a Real. A root of millionths of millionths is one of millionths.
 abbrev pub sqrt_of : ℤ → Result ℤ NumFault
-sqrt_of x = if is_negative x then Err Range else real_of (pos (root_of (unsigned_abs x * 1000000)))
+sqrt_of x = if is_negative x then Err Range else real_of (pos (root_of (unsigned_abs x * unit_size)))
 
 abbrev pub square : ℤ → ℕ
 square x = unsigned_abs x * unsigned_abs x

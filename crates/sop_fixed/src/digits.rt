@@ -9,6 +9,9 @@ pub const MOST_DIGITS: usize = 19;
 /// Above the size of each Real.
 pub(crate) const SIZE_CAP: u128 = 10_000_000_000_000_000;
 
+/// The most that a number may be capped at, so that ten times as much still fits 128 bits.
+pub(crate) const NUMBER_CAP: u128 = 1_000_000_000_000_000_000_000_000_000_000_000_000;
+
 /// Whether each byte is a digit.
 pub fn are_digits(text: &[u8]) -> bool
     ensures { result ≡ are_digits text.now }
@@ -44,7 +47,7 @@ fn are_few_digits(text: &[u8], most: usize) -> bool
 /// The number that the digits go on from `start`, or the cap where it is more.
 pub(crate) fn number_within(start: u128, digits: &[u8], cap: u128) -> u128
     requires start { start ≤ cap }
-    requires cap { cap ≤ 1000000000000000000000000000000000000 }
+    requires cap { cap ≤ NUMBER_CAP }
     ensures { result ≡ min (start * 10 ^ length digits.now + number_of digits.now) cap }
 {
     let mut number = start;
@@ -54,10 +57,25 @@ pub(crate) fn number_within(start: u128, digits: &[u8], cap: u128) -> u128
     number
 }
 
+/// The digits of both parts times 10 ^ up, over 10 ^ down, to the nearest, or the cap where it is more.
+pub(crate) fn scaled(whole: &[u8], fraction: &[u8], up: u128, down: u128) -> u128
+    requires digits { IsTrue (are_digits (whole.now ++ fraction.now)) }
+    ensures { result ≡ min (nearest (number_of (whole.now ++ fraction.now) * 10 ^ up) (10 ^ down)) SIZE_CAP }
+{
+    if down <= up {
+        return raised(
+            number_within(number_within(0, whole, SIZE_CAP), fraction, SIZE_CAP),
+            up - down,
+            SIZE_CAP,
+        );
+    }
+    cut(whole, fraction, down - up)
+}
+
 /// The number times 10 to the power `by`, or the cap where it is more.
 fn raised(number: u128, by: u128, cap: u128) -> u128
     requires start { number ≤ cap }
-    requires cap { cap ≤ 1000000000000000000000000000000000000 }
+    requires cap { cap ≤ NUMBER_CAP }
     ensures { result ≡ min (number * 10 ^ by) cap }
 {
     let mut number = number;
@@ -67,6 +85,20 @@ fn raised(number: u128, by: u128, cap: u128) -> u128
         by -= 1;
     }
     number
+}
+
+/// The digits of both parts over 10 ^ by, to the nearest, or the cap where it is more.
+fn cut(whole: &[u8], fraction: &[u8], by: u128) -> u128
+    requires digits { IsTrue (are_digits (whole.now ++ fraction.now)) }
+    requires some { 0 < by }
+    ensures { result ≡ min (nearest (number_of (whole.now ++ fraction.now)) (10 ^ by)) SIZE_CAP }
+{
+    let len = whole.len() as u128 + fraction.len() as u128;
+    if by > len {
+        return 0;
+    }
+    let kept = (len - by) as usize;
+    (front(whole, fraction, kept) + round_up(digit_at(whole, fraction, kept))).min(SIZE_CAP)
 }
 
 /// The number that the first digits of both parts say, or the cap where it is more.
@@ -104,33 +136,4 @@ fn round_up(digit: u8) -> u128
     } else {
         0
     }
-}
-
-/// The digits of both parts times 10 ^ up, over 10 ^ down, to the nearest, or the cap where it is more.
-pub(crate) fn scaled(whole: &[u8], fraction: &[u8], up: u128, down: u128) -> u128
-    requires digits { IsTrue (are_digits (whole.now ++ fraction.now)) }
-    ensures { result ≡ min (nearest (number_of (whole.now ++ fraction.now) * 10 ^ up) (10 ^ down)) SIZE_CAP }
-{
-    if down <= up {
-        return raised(
-            number_within(number_within(0, whole, SIZE_CAP), fraction, SIZE_CAP),
-            up - down,
-            SIZE_CAP,
-        );
-    }
-    cut(whole, fraction, down - up)
-}
-
-/// The digits of both parts over 10 ^ by, to the nearest, or the cap where it is more.
-fn cut(whole: &[u8], fraction: &[u8], by: u128) -> u128
-    requires digits { IsTrue (are_digits (whole.now ++ fraction.now)) }
-    requires some { 0 < by }
-    ensures { result ≡ min (nearest (number_of (whole.now ++ fraction.now)) (10 ^ by)) SIZE_CAP }
-{
-    let len = whole.len() as u128 + fraction.len() as u128;
-    if by > len {
-        return 0;
-    }
-    let kept = (len - by) as usize;
-    (front(whole, fraction, kept) + round_up(digit_at(whole, fraction, kept))).min(SIZE_CAP)
 }

@@ -13,6 +13,9 @@ pub const SMALLEST_INT: i64 = -2_147_483_648;
 /// The largest Int.
 pub const LARGEST_INT: i64 = 2_147_483_647;
 
+/// The most units of a Real.
+const LARGEST_UNITS: u64 = 1_000_000_000;
+
 /// Above the size of each Int.
 pub(crate) const SIZE_CAP: u64 = 2_147_483_649;
 
@@ -57,7 +60,7 @@ impl Int {
 
     /// The number of so many units of a Real.
     pub(crate) fn from_units(n: i64) -> Int
-        requires { unsigned_abs n ≤ 1000000000 }
+        requires { unsigned_abs n ≤ LARGEST_UNITS }
         ensures { result ≡ n }
     {
         Int { number: n }

@@ -2,12 +2,12 @@
 ghost use Rattle.std.specs.Prelude.{◌≡◌, ◌++◌, ◌+◌, ◌^◌, ◌<◌, ◌≤◌, ◌||◌, not, length, min, OnOk, OnErr, is_some, position};
 ghost use Rattle.std.specs.List.{list_all, before_first, after_first};
 ghost use Rattle.std.specs.Char.{is_ascii_digit};
-ghost use Rattle.sop_fixed.specs.Numbers.{signed};
+ghost use Rattle.sop_fixed.specs.Numbers.{signed, unit_size};
 ghost use Rattle.sop_fixed.specs.Numerals.{has_minus, after_sign, whole_of, fraction_of, is_some_digits, is_point, is_exponent_mark, places_up, places_down, in_range, value_of, decimal_of, sign_text, six_digits, without_last_zeros, fraction_text};
 
 use crate::digits::{are_digits, number_within, scaled};
 use crate::fault::NumeralFault;
-use crate::real::Real;
+use crate::real::{Real, UNIT};
 use itoa::{Buffer, write_digits};
 use std::alloc::AllocError;
 
@@ -122,8 +122,8 @@ pub fn print(x: Real, to: &mut Vec<u8>) -> Result<(), AllocError>
     let size = x.size();
     let sign = sign_text(x.is_negative());
     let mut buffer = Buffer::new();
-    let whole = buffer.format(size / 1_000_000).as_bytes();
-    let places = six_digits(size % 1_000_000);
+    let whole = buffer.format(size / UNIT as u64).as_bytes();
+    let places = six_digits(size % UNIT as u64);
     let fraction = without_last_zeros(&places);
     let point = point_before(fraction);
     to.reserve(sign.len() + whole.len() + point.len() + fraction.len())?;
@@ -156,7 +156,7 @@ fn point_before(fraction: &[u8]) -> &'static [u8]
 }
 
 fn six_digits(n: u64) -> [u8; 6]
-    requires { n < 1000000 }
+    requires { n < unit_size }
     ensures { result ≡ six_digits n }
 {
     let mut digits = *b"000000";

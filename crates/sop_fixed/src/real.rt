@@ -3,7 +3,8 @@ ghost use Rattle.std.specs.Prelude.{◌≡◌, ◌≤◌, ◌<◌, ◌≤ℤ◌,
 ghost use Rattle.std.specs.Int.{int_max, int_min};
 ghost use Rattle.sop_fixed.specs.Arithmetic.{IsFloor, IsNearest, difference_of, fit_of, floor_of, product_of, put_between, quotient_of, remainder_of, rounded, sum_of, unit, units_of};
 ghost use Rattle.sop_fixed.specs.Roots.{IsRootOf, sqrt_of, square};
-ghost use Rattle.sop_fixed.specs.Numbers.{signed, is_negative, nearest, real_of, largest_size};
+ghost use Rattle.sop_fixed.specs.Numbers.{signed, is_negative, nearest, real_of, largest_size, unit_size};
+ghost use Rattle.sop_fixed.specs.declared.sizes.TheConstants.{LARGEST_DIFFERENCE, LARGEST_SQUARE};
 
 use crate::fault::NumFault;
 use crate::int::Int;
@@ -108,7 +109,7 @@ impl Real {
     /// The square root, cut to millionths; `Range` where `self` is below zero.
     pub fn sqrt(self) -> Result<Real, NumFault>
         ensures value { result ≡ sqrt_of self }
-        ensures greatest { pos 0 ≤ℤ self → IsOkAnd result (λ r. IsRootOf (unsigned_abs self * 1000000) r) }
+        ensures greatest { pos 0 ≤ℤ self → IsOkAnd result (λ r. IsRootOf (unsigned_abs self * unit_size) r) }
     {
         if self.is_negative() {
             return Err(NumFault::Range);
@@ -158,7 +159,7 @@ impl Real {
     /// The square of the number of millionths.
     pub(crate) fn square(self) -> u128
         ensures value { result ≡ square self }
-        ensures bound { result ≤ 1000000000000000000000000000000 }
+        ensures bound { result ≤ LARGEST_SQUARE }
     {
         product(self.size(), self.size())
     }
@@ -166,7 +167,7 @@ impl Real {
     /// How far the two numbers lie apart, in millionths.
     fn distance(self, from: Real) -> u64
         ensures value { result ≡ unsigned_abs (self -ℤ from) }
-        ensures bound { result ≤ 2000000000000000 }
+        ensures bound { result ≤ LARGEST_DIFFERENCE }
     {
         self.millionths.abs_diff(from.millionths)
     }

@@ -5,6 +5,9 @@ ghost use Rattle.sop_fixed.specs.Numbers.{nearest};
 /// The largest difference of two Reals, in millionths.
 pub(crate) const LARGEST_DIFFERENCE: u64 = 2_000_000_000_000_000;
 
+/// The largest square of a Real, in millionths of millionths.
+pub(crate) const LARGEST_SQUARE: u128 = 1_000_000_000_000_000_000_000_000_000_000;
+
 /// The largest product of two such differences.
 pub(crate) const LARGEST_PRODUCT: u128 = 4_000_000_000_000_000_000_000_000_000_000;
 

@@ -24,17 +24,6 @@ fn numerals_are_read_and_printed(rt: HostRuntime) -> Result<(), Fail> {
     Ok(())
 }
 
-#[test]
-fn numbers_are_made(rt: HostRuntime) -> Result<(), Fail> {
-    let x = Real::of_millionths(-1).expect(&rt, "in range");
-    let place = Vec3 { x, y: x, z: x };
-    assert!(rt; place == place);
-    assert_eq!(rt; place.y.millionths(), -1);
-    assert_eq!(rt; Int::of(-7).expect(&rt, "in range").get(), -7);
-    assert!(rt; Int::of(2_147_483_648).is_err());
-    Ok(())
-}
-
 fn real(rt: &impl Abort, millionths: i64) -> Real {
     Real::of_millionths(millionths).expect(rt, "in range")
 }
@@ -53,18 +42,37 @@ fn reals_are_reckoned(rt: HostRuntime) -> Result<(), Fail> {
     assert_eq!(rt; x.to_int().get(), 7);
     assert_eq!(rt; real(&rt, 0).fit(y, x, x, y).millionths(), 5_500_000);
     assert!(rt; Vec3 { x, y, z: y }.length() == Ok(real(&rt, 8_015_609)));
+    let end = real(&rt, LARGEST_SIZE.cast_signed());
+    assert!(rt; end.sqrt() == Ok(real(&rt, 31_622_776_601)));
+    assert!(rt;
+        Vec3 {
+            x: end,
+            y: end,
+            z: end
+        }
+        .length()
+            == Err(NumFault::Range)
+    );
     Ok(())
 }
 
 #[test]
-fn ints_are_reckoned(rt: HostRuntime) -> Result<(), Fail> {
-    let x = Int::of(-7).expect(&rt, "in range");
+fn ints_are_read_and_reckoned(rt: HostRuntime) -> Result<(), Fail> {
+    let x = read_whole(b"-07").expect(&rt, "a whole number in range");
     let y = Int::of(2).expect(&rt, "in range");
+    assert_eq!(rt; x.get(), -7);
     assert!(rt; x.add(y) == Int::of(-5));
     assert!(rt; x.sub(y) == Int::of(-9));
     assert!(rt; x.mul(y) == Int::of(-14));
     assert!(rt; x.div(y) == Int::of(-3));
     assert!(rt; x.rem(y) == Int::of(-1));
     assert!(rt; x.to_real() == Ok(real(&rt, -7_000_000)));
+    assert!(rt;
+        read_whole(b"-2147483648") == Int::of(SMALLEST_INT).map_err(|_| NumeralFault::NotNumeral)
+    );
+    assert!(rt; read_whole(b"99999999999999999999") == Err(NumeralFault::OutOfRange));
+    assert!(rt; read_whole(b"+1") == Err(NumeralFault::NotNumeral));
+    assert!(rt; read_number(b"0042", 4) == Some(42));
+    assert!(rt; read_number(b"00042", 4).is_none());
     Ok(())
 }

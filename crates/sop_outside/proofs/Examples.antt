@@ -1,7 +1,9 @@
 -- Worked examples of the definitions.
 use Rattle.std.proofs.Common.{◌≡◌, [], ◌∷◌, Some, None, Ok, Err, refl, ap, ◌∙◌}
+use Rattle.std.specs.Prelude.{codes}
 use Rattle.std.specs.Cmp.Lexicographic.{nat_list_cmp_total}
 use Rattle.std.specs.FinMap.{empty, insert, get-empty, get-insert}
+use Rattle.sop_outside.specs.Blanks.{words_of}
 use Rattle.sop_outside.specs.Causes.{raised}
 use Rattle.sop_outside.specs.Load.{Names, within, load_of}
 use Rattle.sop_outside.specs.Told.{appended}
@@ -38,3 +40,10 @@ load_of_newer_short = ap (within 2) (get-insert nat_list_cmp_total _ (7 ∷ []) 
 load_of_other : load_of added_twice (8 ∷ []) 3 ≡ Err Missing
 unfolding added_twice
 load_of_other = ap (within 3) (get-insert nat_list_cmp_total _ (7 ∷ []) (3 ∷ 4 ∷ 5 ∷ []) (8 ∷ []) ∙ get-insert nat_list_cmp_total _ (7 ∷ []) (1 ∷ 2 ∷ []) (8 ∷ []) ∙ get-empty _ (8 ∷ []))
+
+-- words between blanks: at the ends, several in a row, and none at all
+words_two : words_of (codes "  a\tbc\r\n") ≡ codes "a" ∷ codes "bc" ∷ []
+words_two = refl
+
+words_none : words_of (codes " \n") ≡ []
+words_none = refl

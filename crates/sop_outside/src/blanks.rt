@@ -1,4 +1,4 @@
-// The words of a text, between blanks.
+//! Blanks, and the words between them.
 ghost use Rattle.std.specs.Prelude.{◌≡◌, ◌∷◌, [], ◌^◌, ◌<◌, ◌≤◌, not, length, IfSome, IfNone};
 ghost use Rattle.std.specs.List.{prefix_len};
 ghost use Rattle.std.specs.Iterator.{YieldsFirstRef, item_count};

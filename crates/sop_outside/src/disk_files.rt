@@ -1,4 +1,4 @@
-// The files of the system.
+//! The files of the system.
 ghost use Rattle.std.specs.Prelude.{◌≡◌, ◌≢◌, ◌≤◌, Err, None, IfOk, vec_len};
 
 use crate::files::{Files, LoadEnd};
@@ -37,6 +37,22 @@ impl<'a, R: rt::Files> DiskFiles<'a, R> {
             system,
             counts: LoadCounts::ZERO,
         }
+    }
+}
+
+impl<R: rt::Files> Files for DiskFiles<'_, R> {
+    ghost told = { λ _. None };
+
+    ghost faults = { λ f. f.faults };
+
+    ghost misses = { λ f. f.misses };
+
+    ghost overs = { λ f. f.overs };
+
+    fn load(&mut self, alloc: Global, name: &str, limit: u64) -> Result<Vec<u8>, LoadEnd> {
+        let loaded = load_file(self.system, alloc, name, limit);
+        self.counts.count(&loaded);
+        loaded
     }
 }
 
@@ -86,21 +102,5 @@ fn end_of_reading(kind: ErrorKind) -> LoadEnd
     match kind {
         ErrorKind::OutOfMemory => LoadEnd::Memory,
         _ => LoadEnd::Failed,
-    }
-}
-
-impl<R: rt::Files> Files for DiskFiles<'_, R> {
-    ghost told = { λ _. None };
-
-    ghost faults = { λ f. f.faults };
-
-    ghost misses = { λ f. f.misses };
-
-    ghost overs = { λ f. f.overs };
-
-    fn load(&mut self, alloc: Global, name: &str, limit: u64) -> Result<Vec<u8>, LoadEnd> {
-        let loaded = load_file(self.system, alloc, name, limit);
-        self.counts.count(&loaded);
-        loaded
     }
 }

@@ -1,3 +1,4 @@
+//! Calls that fail, by their numbers.
 ghost use Rattle.std.specs.Prelude.{◌≡◌, [], ◌∷◌, ◌++◌, ◌↔◌, IsTrue, Contains, OnOk, OnErr};
 ghost use Rattle.sop_outside.specs.Causes.{raised};
 

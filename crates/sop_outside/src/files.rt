@@ -1,3 +1,4 @@
+//! Named files.
 ghost use Rattle.std.specs.Prelude.{◌≡◌, ◌≤◌, ℕ, IfOk, IfSome, MatchResult, Option, vec_len};
 ghost use Rattle.sop_outside.specs.Causes.{Counts};
 ghost use Rattle.sop_outside.specs.Load.{Names, load_of, IsRefusal};

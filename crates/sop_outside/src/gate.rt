@@ -1,3 +1,4 @@
+//! Gates of workers.
 /// What a worker passes before it works on a ticket. A gate has no meaning and no faults: a test may
 /// hold workers at one, and no answer depends on it.
 pub trait Gate {

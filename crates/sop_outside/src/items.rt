@@ -1,4 +1,4 @@
-// Growing lists.
+//! Growing lists.
 ghost use Rattle.std.specs.Prelude.{◌≡◌, ◌<◌, [], ◌∷◌, ◌++◌, length, set, OnOk, IfOk, IfErr, OnErr, slice_get, Some, option_to_list, ◌↔◌, IsNone, IsTrue};
 ghost use Rattle.std.specs.Cmp.Lexicographic.{pointwise, lists_equiv, lists_per};
 ghost use Rattle.std.specs.Hash as fed;

@@ -1,3 +1,4 @@
+//! Counts of how loads end.
 ghost use Rattle.std.specs.Prelude.{◌≡◌, Err};
 ghost use Rattle.sop_outside.specs.Causes.{Counts};
 

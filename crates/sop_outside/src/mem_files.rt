@@ -1,4 +1,4 @@
-// Files in memory.
+//! Files in memory.
 ghost use Rattle.std.specs.Prelude.{◌≡◌, ◌≢◌, ◌≤◌, ◌↔◌, [], ◌∷◌, ◌++◌, IfOk, IfSome, OnOk, OnErr, MatchResult, Contains, Some, vec_len};
 ghost use Rattle.std.specs.Option.{option_copied};
 ghost use Rattle.std.specs.FinMap as map;
@@ -73,30 +73,6 @@ impl MemFiles {
     {
         self.failing.add(call)
     }
-
-    /// The bytes of the file of this name, if there is one.
-    fn find(&self, name: &str) -> Option<&ByteList>
-        ensures { option_copied result ≡ map.get self.now.names name.now }
-    {
-        self.files.get(name)
-    }
-}
-
-/// A copy of the bytes that were found, if there are any and they are at most `limit`.
-fn load_found(alloc: Global, found: Option<&ByteList>, limit: u64) -> Result<Vec<u8>, LoadEnd>
-    ensures load { MatchResult result
-        (λ bytes. within limit (option_copied found.entry) ≡ Ok bytes.items)
-        (IsRefusal (within limit (option_copied found.entry))) }
-    ensures short { IfOk result (λ bytes. vec_len bytes ≤ limit) }
-    ensures never_failed { result ≢ Err LoadEnd.Failed }
-{
-    let Some(bytes) = found else {
-        return Err(LoadEnd::Missing);
-    };
-    if bytes.len() as u64 > limit {
-        return Err(LoadEnd::TooLong);
-    }
-    Vec::from_slice(alloc, bytes.as_slice()).map_err(|_| LoadEnd::Memory)
 }
 
 impl Files for MemFiles {
@@ -131,4 +107,30 @@ impl Files for MemFiles {
         self.counts.count(&loaded);
         loaded
     }
+}
+
+impl MemFiles {
+    /// The bytes of the file of this name, if there is one.
+    fn find(&self, name: &str) -> Option<&ByteList>
+        ensures { option_copied result ≡ map.get self.now.names name.now }
+    {
+        self.files.get(name)
+    }
+}
+
+/// A copy of the bytes that were found, if there are any and they are at most `limit`.
+fn load_found(alloc: Global, found: Option<&ByteList>, limit: u64) -> Result<Vec<u8>, LoadEnd>
+    ensures load { MatchResult result
+        (λ bytes. within limit (option_copied found.entry) ≡ Ok bytes.items)
+        (IsRefusal (within limit (option_copied found.entry))) }
+    ensures short { IfOk result (λ bytes. vec_len bytes ≤ limit) }
+    ensures never_failed { result ≢ Err LoadEnd.Failed }
+{
+    let Some(bytes) = found else {
+        return Err(LoadEnd::Missing);
+    };
+    if bytes.len() as u64 > limit {
+        return Err(LoadEnd::TooLong);
+    }
+    Vec::from_slice(alloc, bytes.as_slice()).map_err(|_| LoadEnd::Memory)
 }

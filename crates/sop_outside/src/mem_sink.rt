@@ -1,3 +1,4 @@
+//! A sink in memory.
 ghost use Rattle.std.specs.Prelude.{◌≡◌, ◌≤◌, ◌<◌, ◌+◌, ◌∷◌, ◌++◌, [], ◌↔◌, ◌⊎◌, length, take, min, Some, IfOk, OnOk, OnErr, IsErr, IsTrue, Contains, vec_len, vec_capacity};
 ghost use Rattle.sop_outside.specs.Causes.{Counts, raised};
 ghost use Rattle.sop_outside.specs.Told.{appended};

@@ -1,3 +1,4 @@
+//! Sinks of bytes.
 ghost use Rattle.std.specs.Prelude.{◌≡◌, ◌≤◌, ◌<◌, ℕ, List, IfOk, OnOk, OnErr, IsErr, IsOk, [], Option, length, take};
 ghost use Rattle.sop_outside.specs.Causes.{Counts};
 ghost use Rattle.sop_outside.specs.Told.{appended, AppendsPrefix};

@@ -1,3 +1,4 @@
+//! Standard output and standard error.
 ghost use Rattle.std.specs.Prelude.{◌≡◌, None};
 
 use crate::sink::{Failed, Sink};

@@ -1,31 +1,51 @@
 use crate::{
-    DiskFiles, Failed, Files, Gate, Items, LoadEnd, MemFiles, MemSink, OpenGate, Sink, StdSink,
-    Text, TextList, put,
+    DiskFiles, Failed, Files, Gate, Items, LoadEnd, MemFiles, MemSink, OpenGate, StdSink, Text,
+    TextList, put, words_of,
 };
+use std::collections::HashSet;
 use std::fs;
 use std::test::Fail;
 
 #[test]
-fn a_list_gives_back_its_items_from_the_end(rt: HostRuntime) -> Result<(), Fail> {
-    let mut names = TextList::new(rt.alloc());
+fn lists_are_changed_and_compared(rt: HostRuntime) -> Result<(), Fail> {
+    let mut names = TextList::with_capacity(rt.alloc(), 2)?;
     assert!(rt; names.is_empty());
     names.add(Text::from_str(rt.alloc(), "first")?)?;
-    assert!(rt; names.push(Text::from_str(rt.alloc(), "last")?).is_ok());
+    names.reserve(1)?;
+    let last = Text::from_string(String::from_str(rt.alloc(), "last")?);
+    assert!(rt; names.push(last).is_ok());
     assert_eq!(rt; names.len(), 2);
-    assert_eq!(rt; names.get(0).as_str(), "first");
-    assert!(rt; *names.get(0) != *names.get(1));
+    let old = names.replace(0, Text::from_str(rt.alloc(), "last")?);
+    assert_eq!(rt; old.into_string().as_str(), "first");
+    assert!(rt; *names.get(0) == *names.get(1));
+    names.set(1, Text::from_str(rt.alloc(), "other")?);
     let last = names.pop().expect(&rt, "there are two");
-    assert_eq!(rt; last.as_str(), "last");
+    assert_eq!(rt; last.as_str(), "other");
     let names = Items::from_vec(names.into_vec());
     assert_eq!(rt; names.as_slice().len(), 1);
+    let mut lists = HashSet::new(rt.alloc());
+    assert!(rt; lists.insert(names)?);
+    let mut same = TextList::new(rt.alloc());
+    same.add(Text::from_str(rt.alloc(), "last")?)?;
+    assert!(rt; lists.contains(&same));
     OpenGate.enter(7);
     Ok(())
 }
 
 #[test]
-fn files_in_memory_fail_where_they_are_told_to(rt: HostRuntime) -> Result<(), Fail> {
+fn words_are_cut_at_blanks(rt: HostRuntime) -> Result<(), Fail> {
+    let mut joined = Vec::new(rt.alloc());
+    for word in words_of(b" \t one\rtwo\n\n3 ") {
+        joined.extend_from_slice(word)?;
+        joined.push(b'|')?;
+    }
+    assert_eq!(rt; joined.as_slice(), b"one|two|3|".as_slice());
+    Ok(())
+}
+
+#[test]
+fn files_and_sinks_in_memory(rt: HostRuntime) -> Result<(), Fail> {
     let mut files = MemFiles::new(rt.alloc());
-    files.add("a", b"one")?;
     files.add("a", b"three")?;
     files.fail_at(2)?;
     let loaded = files
@@ -33,24 +53,10 @@ fn files_in_memory_fail_where_they_are_told_to(rt: HostRuntime) -> Result<(), Fa
         .expect(&rt, "a has five bytes");
     assert_eq!(rt; loaded.as_slice(), b"three".as_slice());
     assert_eq!(rt; files.load(rt.alloc(), "a", 5).err(), Some(LoadEnd::Failed));
-    assert_eq!(rt;
-        files.load(rt.alloc(), "a", 4).err(),
-        Some(LoadEnd::TooLong)
-    );
-    assert_eq!(rt;
-        files.load(rt.alloc(), "b", 5).err(),
-        Some(LoadEnd::Missing)
-    );
-    Ok(())
-}
-
-#[test]
-fn a_sink_in_memory_takes_pieces_until_it_is_full(rt: HostRuntime) -> Result<(), Fail> {
     let mut sink = MemSink::new(rt.alloc(), 5, 2)?;
     sink.fail_at(1)?;
-    assert_eq!(rt; sink.write(b"abc"), Err(Failed));
-    assert_eq!(rt; sink.write(b"abc"), Ok(2));
-    assert_eq!(rt; put(&mut sink, b"c"), Ok(()));
+    assert_eq!(rt; put(&mut sink, b"abc"), Err(Failed));
+    assert_eq!(rt; put(&mut sink, b"abc"), Ok(()));
     assert_eq!(rt; put(&mut sink, b"def"), Err(Failed));
     assert_eq!(rt; sink.bytes(), b"abcde".as_slice());
     Ok(())
