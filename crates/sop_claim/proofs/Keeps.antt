@@ -220,3 +220,27 @@ joined_kept n next least views id v other w r at apart there some_share =
       counted = let t = sum (λ u. u.missed) in let o = r.counted in omega arith;
       ended = λ any. r.ended (let t = sum (λ u. u.missed) in omega arith);
     }
+
+spent_sound : IsSound spent_view
+spent_sound = record { own = λ x. omega arith; above = λ x any. absurd (omega arith); spent = λ none'. refl }
+
+-- a pass hands all that it knows to a new one
+pub moved_kept : (n next least : ℕ) (views : List View) (id : ℕ) (v : View) → IsKept n next least views → get_elem? views id ≡ some v → IsKept n next least (set views id spent_view ++ v ∷ [])
+moved_kept n next least views id v r at =
+    let final : List View = set views id spent_view ++ v ∷ [] in
+    let sum : (f : View → ℕ) → total f final + f v ≡ total f views + f spent_view + f v = λ f. total_split f views id v spent_view v at in
+    let same : (x : ℕ) → reported_by_all x final ≡ reported_by_all x views = λ x. let t = sum (λ u. times x u.faulty) in omega arith in record {
+      small = r.small;
+      once = λ x. let t = sum (λ u. times x u.drawn) in let o = r.once x in omega arith;
+      within = r.within;
+      lower = λ x lt. same x ∙ r.lower x lt;
+      reached = λ lt. let a = r.reached lt in let b = same least in omega arith;
+      loaded = λ x any. let old = r.loaded x (let t = sum (λ u. times x u.loaded) in omega arith) in (old.0, old.1, λ lt. let a = old.2 lt in let b = same x in omega arith);
+      each = λ i u e. ⊎_elim
+          (λ was. ⊎_elim (λ (t : (i ≡ id) × (spent_view ≡ u)). subst IsSound t.1 spent_sound) (λ (t : (i ≢ id) × (get_elem? views i ≡ some u)). r.each i u t.1) (at_set views id i spent_view u was))
+          (λ (is : v ≡ u). subst IsSound is (r.each id v at))
+          (at_snoc (set views id spent_view) v u i e);
+      shares = let t = sum share in let o = r.shares in omega arith;
+      counted = let t = sum (λ u. u.missed) in let o = r.counted in omega arith;
+      ended = λ any. r.ended (let t = sum (λ u. u.missed) in omega arith);
+    }

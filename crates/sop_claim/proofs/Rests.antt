@@ -35,7 +35,7 @@ get_snoc [] a b (suc j) e = absurd (cc)
 get_snoc (x ∷ xs) a b zero e = inl e
 get_snoc (x ∷ xs) a b (suc j) e = get_snoc xs a b j e
 
-snoc_there : (l : List Standing) (a b : Standing) (j : ℕ) → slice_get l j ≡ Some b → slice_get (l ++ a ∷ []) j ≡ Some b
+pub snoc_there : (l : List Standing) (a b : Standing) (j : ℕ) → slice_get l j ≡ Some b → slice_get (l ++ a ∷ []) j ≡ Some b
 snoc_there [] a b j e = absurd (cc)
 snoc_there (x ∷ xs) a b zero e = e
 snoc_there (x ∷ xs) a b (suc j) e = snoc_there xs a b j e

@@ -6,13 +6,14 @@ use lib.ListN.{get_elem?}
 use Rattle.atomic_table.specs.Table.{State, Me, Step}
 use Rattle.sop_claim.specs.declared.machine.Event.{Event}
 use Rattle.sop_claim.specs.declared.machine.Standing.{Standing}
-use Rattle.sop_claim.specs.declared.machine.Standing.TheVariants.{Done, Skipped}
+use Rattle.sop_claim.specs.declared.machine.Standing.TheVariants.{Held, Done, Skipped}
 use Rattle.sop_claim.specs.declared.rule.View.{View}
+use Rattle.sop_claim.specs.declared.rule.TheConstants.{WHOLE_SHARE}
 use Rattle.sop_claim.specs.Claims.{start, after, is_faulty}
-use Rattle.sop_claim.specs.Views.{times, settled, HasLoadedBelow, IsAfter, share, newcomer, with_drawn, with_miss, with_faulty, with_loaded}
+use Rattle.sop_claim.specs.Views.{times, settled, IsHeld, HasLoadedBelow, IsAfter, share, newcomer, with_drawn, with_miss, with_faulty, with_loaded}
 
 -- f of each view, added up
-abbrev pub total : (View → ℕ) → List View → ℕ
+abbrev pub total : {V : Type 0} → (V → ℕ) → List V → ℕ
 total f [] = 0
 total f (v ∷ vs) = f v + total f vs
 
@@ -52,8 +53,8 @@ pub record IsKept (n next least : ℕ) (views : List View) : Type 0 where
   pub loaded : (x : ℕ) → 1 ≤ loaded_by_all x views → (least ≤ x) × (x ≤ n) × (x < n → 1 ≤ reported_by_all x views)
   -- what each pass has settled and skipped
   pub each : (i : ℕ) (v : View) → get_elem? views i ≡ some v → IsSound v
-  -- the shares of all passes add up to 2^62
-  pub shares : total share views ≡ 2 ^ 62
+  -- the shares of all passes add up to the whole
+  pub shares : total share views ≡ WHOLE_SHARE
   -- each draw past n is one that found nothing, so word 0 never wraps
   pub counted : next ≤ n + missed_by_all views
   -- a draw finds nothing only once all tickets were drawn
@@ -80,13 +81,24 @@ pub record StandAs (tickets : List Standing) (views : List View) : Type 0 where
   pub faulty : Lists (λ v. v.faulty) is_faulty tickets views
   pub skipped : Lists (λ v. v.skipped) is_skipped tickets views
 
+-- The ticket is held, in the claims, by the worker that drew it, whose tickets lie in the pass.
+abbrev pub IsHeldFor : List Standing → (ℕ → ℕ) → ℕ → ℕ → Type 0
+IsHeldFor tickets keeper pass k = (w : ℕ) × (slice_get tickets k ≡ Some (Held w)) × (keeper w ≡ pass)
+
 -- the board is what some list of events makes of the claims, where each pass ever made is a worker
 pub record IsReached (n next least : ℕ) (views : List View) : Type 0 where
   pub events : List Event
   pub tickets : List Standing
+  -- the pass in which the tickets lie that a worker drew: its own, or the one that it was joined into
+  pub keeper : ℕ → ℕ
   pub run : (workers : ℕ) → length views ≤ workers → after (start workers n) events ≡ Some record { workers = workers; n = n; least = least; tickets = tickets }
   pub drawn : length tickets ≡ min next n
   pub stand : StandAs tickets views
+  -- a pass with a share keeps what its own worker drew, and so will each pass that is yet to be made
+  pub own : (i : ℕ) (v : View) → get_elem? views i ≡ some v → 1 ≤ share v → keeper i ≡ i
+  pub later : (i : ℕ) → length views ≤ i → keeper i ≡ i
+  -- a ticket that a pass drew and has not settled is held by the worker that drew it, also after a join
+  pub held : (i k : ℕ) (v : View) → get_elem? views i ≡ some v → IsHeld v k → IsHeldFor tickets keeper i k
 
 abbrev pub BoardState : Type 0
 BoardState = State (Unit {0}) View
@@ -96,7 +108,7 @@ Rule n s = (length s.words ≡ 2) × IsKept n (slice_index s.words 0) (slice_ind
 
 -- the pass with the whole share, which each board begins with
 abbrev pub first_view : ℕ → View
-first_view n = newcomer n (2 ^ 62)
+first_view n = newcomer n WHOLE_SHARE
 
 abbrev pub spent_view : View
 spent_view = newcomer 0 0
@@ -123,4 +135,4 @@ Settles with_settled k st m r w = (w.1 ≡ m.1) × (w.0 ≡ with_settled m.0 k)
 
 -- nothing changes, and the share of the pass is part of the whole
 abbrev pub Weighs : Step (Unit {0}) → Place → ℕ → Place → Type 0
-Weighs st m r w = (w.1 ≡ m.1) × (w.0 ≡ m.0) × (share m.0 ≤ 2 ^ 62)
+Weighs st m r w = (w.1 ≡ m.1) × (w.0 ≡ m.0) × (share m.0 ≤ WHOLE_SHARE)

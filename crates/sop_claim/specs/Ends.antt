@@ -1,10 +1,11 @@
 -- How a board ends, as its last pass knows it, which all others were joined into.
-use Rattle.std.specs.Prelude.{◌≡◌, ℕ, ◌<◌, ◌≤◌, List, [], ◌∷◌, Some}
+use Rattle.std.specs.Prelude.{◌≡◌, ℕ, ◌<◌, ◌≤◌, List, [], ◌∷◌, Some, slice_get}
 use Rattle.sop_claim.specs.declared.machine.Event.{Event}
+use Rattle.sop_claim.specs.declared.machine.Standing.TheVariants.{Held}
 use Rattle.sop_claim.specs.declared.rule.View.{View}
 use Rattle.sop_claim.specs.declared.board.BoardEnd.{BoardEnd}
 use Rattle.sop_claim.specs.Claims.{Claims, start, after, next}
-use Rattle.sop_claim.specs.Views.{times, settled}
+use Rattle.sop_claim.specs.Views.{times, settled, IsHeld}
 use Rattle.sop_claim.specs.BoardRule.{once_below, StandAs}
 
 -- what the last pass knows of all tickets of a board of n
@@ -32,3 +33,5 @@ pub record EndsRun (n : ℕ) (end : BoardEnd) (v : View) : Type 0 where
   pub drawn : next claims ≡ end.drawn
   pub least : claims.least ≡ end.least
   pub stand : StandAs claims.tickets (v ∷ [])
+  -- a ticket that was drawn and not settled is held still, by the worker that drew it
+  pub held : (k : ℕ) → IsHeld v k → (w : ℕ) × (slice_get claims.tickets k ≡ Some (Held w))

@@ -3,3 +3,4 @@ pub mod Views
 pub mod BoardRule
 pub mod Passes
 pub mod Ends
+pub mod StepEvents

@@ -1,9 +1,12 @@
 // The ticket board: two words, and passes that step on them.
-ghost use Rattle.std.specs.Prelude.{◌≡◌, ℕ, ◌+◌, ◌^◌, ◌<◌, ◌≤◌, [], IfOk, IfSome, IfNone, IsOkAnd};
+ghost use Rattle.std.specs.Prelude.{◌≡◌, ℕ, ◌+◌, ◌<◌, ◌≤◌, [], IfOk, IfSome, IfNone, IsOkAnd};
 ghost use Rattle.sop_claim.specs.Views.{IsHeld, HasLoadedBelow, HasTold, IsAfter, share, newcomer, with_drawn, with_miss, with_faulty, with_loaded, with_done, with_skipped, with_less_room, joined};
+ghost use Rattle.sop_claim.specs.declared.rule.TheConstants.{WHOLE_SHARE};
 ghost use Rattle.sop_claim.specs.BoardRule.{first_view};
 
-use crate::rule::{Claiming, Doing, Drawing, Loading, Reporting, Settled, Sharing, Skipping, View};
+use crate::rule::{
+    Claiming, Doing, Drawing, Loading, Reporting, Settled, Sharing, Skipping, View, WHOLE_SHARE,
+};
 use atomic_table::{Seat, Table};
 use std::alloc::{AllocError, Global};
 use std::marker::Brand;
@@ -28,7 +31,7 @@ pub struct Pass {
     ghost room_is: { seat.me.0.room ≡ room },
     ghost share_is: { seat.me.0.room + seat.me.0.missed ≡ share },
     ghost some_share: { 1 ≤ share },
-    ghost part: { share ≤ 2 ^ 62 },
+    ghost part: { share ≤ WHOLE_SHARE },
 }
 
 /// How a board ends.
@@ -50,10 +53,10 @@ impl Pass {
         self.room
     }
 
-    /// The part of the board's share of 2^62 that this pass has: at least 1.
+    /// The part of `WHOLE_SHARE` that this pass has: at least 1.
     pub fn share(&self) -> u64
         ensures share { result ≡ share (view_of self.now) }
-        ensures part { (1 ≤ result) × (result ≤ 2 ^ 62) }
+        ensures part { (1 ≤ result) × (result ≤ WHOLE_SHARE) }
     {
         self.share
     }
@@ -63,7 +66,7 @@ impl Board {
     ghost use Rattle.sop_claim.specs.Passes.{view_of, IsPassOf, tickets};
     ghost use Rattle.sop_claim.specs.Ends.{Knows, EndsRun};
 
-    /// A board of n tickets, and its first pass, whose room and share are 2^62.
+    /// A board of n tickets, and its first pass, whose room and share are `WHOLE_SHARE`.
     pub fn new(alloc: Global, n: u32) -> Result<(Board, Pass), AllocError>
         ensures tickets { IfOk result (λ r. tickets r.0 ≡ n) }
         ensures pass { IfOk result (λ r. IsPassOf r.0 r.1 × (view_of r.1 ≡ first_view n)) }
@@ -72,8 +75,8 @@ impl Board {
         let board = Board { table, n };
         let pass = Pass {
             seat,
-            room: 1 << 62,
-            share: 1 << 62,
+            room: WHOLE_SHARE,
+            share: WHOLE_SHARE,
         };
         Ok((board, pass))
     }
@@ -183,7 +186,7 @@ impl Board {
     }
 
     /// Puts all that another pass has into this one: its tickets, settled or not, what it loaded,
-    /// its room and its share.
+    /// its room and its share. A load, which is no event of the claims, then weighs the share.
     pub fn join(&self, pass: &mut Pass, other: Pass)
         requires pass { IsPassOf self.now pass.old }
         requires other { IsPassOf self.now other }
@@ -197,11 +200,11 @@ impl Board {
         pass.share += share;
     }
 
-    /// Ends the board, by its last pass, which has the whole share of 2^62: the next ticket of the
+    /// Ends the board, by its last pass, which has the whole share: the next ticket of the
     /// claims, at most n, and the least. This takes no memory and is never an `Err`.
     pub fn close(self, pass: Pass) -> Result<BoardEnd, AllocError>
         requires pass { IsPassOf self pass }
-        requires whole { share (view_of pass) ≡ 2 ^ 62 }
+        requires whole { share (view_of pass) ≡ WHOLE_SHARE }
         ensures known { IsOkAnd result (λ end. Knows (tickets self) end (view_of pass)) }
         ensures claims { IfOk result (λ end. EndsRun (tickets self) end (view_of pass)) }
     {

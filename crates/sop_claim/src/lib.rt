@@ -6,12 +6,14 @@
 #![tactic(auto)]
 
 mod board;
+mod law;
 mod machine;
 mod rule;
 
 pub use board::{Board, BoardEnd, Pass};
+pub use law::steps_are_events;
 pub use machine::{Core, Event, NotNow, Standing, claims_end_well, core_new, core_step};
-pub use rule::View;
+pub use rule::{View, WHOLE_SHARE};
 
 #[cfg(test)]
 mod tests;

@@ -3,6 +3,10 @@ use atomic_table::{Join, Play, Split, TableRule};
 use std::collections::LinkedList;
 use std::marker::{Brand, PhantomData};
 
+/// The shares of all passes of a board add up to this: one share for each pass, and so many draws that may
+/// find nothing before word 0 could wrap.
+pub const WHOLE_SHARE: u64 = 1 << 62;
+
 /// What a pass knows of its board. It exists in contracts and proofs alone: no value of it is made.
 pub struct View {
     /// The number of tickets.
