@@ -1,6 +1,7 @@
--- A text for a parameter is judged by the parameter's row.
-use Rattle.std.proofs.Common.{◌≡◌, ◌∙◌, sym, ap, subst, refl, ℕ, zero, suc, ◌-◌, ◌<◌, ◌≤◌, List, [], ◌∷◌, ◌++◌, Bool, true, false, IsTrue, length, get_or, take, drop, arith}
-use Rattle.std.specs.Prelude.{Option, None, Some, map, position, bytes_eq, find, slice_get, slice_set, if◌then◌else◌}
+-- A text for a parameter is judged by the parameter's row, and texts are staged by the places of their parameters.
+use Rattle.std.proofs.Common.{◌≡◌, ◌∙◌, sym, ap, subst, refl, ℕ, zero, suc, ◌-◌, ◌<◌, ◌≤◌, List, [], ◌∷◌, ◌++◌, Bool, true, false, IsTrue, length, length-append, length-set, get_or, set, take, drop, arith}
+use Rattle.std.specs.Prelude.{Option, None, Some, map, position, bytes_eq, find, slice_get, slice_set, unwrap_or, replicate, if◌then◌else◌}
+use Rattle.std.proofs.lemmas.List.{length-replicate}
 use Rattle.std.proofs.Math.ListN.{get_or-map}
 use Rattle.std.proofs.Math.Seq.{take-length}
 use Rattle.std.proofs.lemmas.Option.{slice_get-get_or}
@@ -13,7 +14,7 @@ use Rattle.sop_net.specs.Network.{AreValues}
 use Rattle.sop_net.specs.NodeTable.{Parm, parms_of}
 use Rattle.sop_net.specs.ParmValues.{is_value}
 use Rattle.sop_net.specs.Rows.{parm_meant, kind_meant}
-use Rattle.sop_net.specs.Edits.{edited, AreWithin}
+use Rattle.sop_net.specs.Edits.{staged_over}
 use Rattle.sop_net.specs.Steps.{refusal_of_value, refusal_of_pair, first_of, refusal_of_pairs, set_at, with_pair, with_pairs}
 use Rattle.sop_net.proofs.Searches.{find-position, position-within, find-no_position}
 
@@ -33,44 +34,82 @@ module _ (rows : List code.Parm) (node_type : NodeType) (name value : List ℕ) 
       ∙ slice_get-get_or (map parm_meant rows) at (parm_meant d) within ∙ ap Some (get_or-map parm_meant rows at d))
       ∙ ap (λ b. if b then None else Some BadValue) (sym is)
 
--- edits so far and pairs left make the whole
-pub record IsStaged (node_type : NodeType) (pairs left : List (List ℕ)) (edits : List Edit) : Type 0 where
+-- with nothing staged the texts stay
+pub over-none : (texts : List (List ℕ)) → staged_over texts [] ≡ texts
+over-none [] = refl
+over-none (text ∷ texts) = refl
+
+pub over-start : (n : ℕ) (texts : List (List ℕ)) → staged_over texts (replicate n None) ≡ texts
+over-start n [] = refl
+over-start zero (text ∷ texts) = refl
+over-start (suc n) (text ∷ texts) = ap (λ l. text ∷ l) (over-start n texts)
+
+-- one more is staged
+over-set : (texts : List (List ℕ)) (staged : List (Option (List ℕ))) (i : ℕ) (value : List ℕ) → i < length staged → staged_over texts (set staged i (Some value)) ≡ slice_set (staged_over texts staged) i value
+over-set [] staged i value h = refl
+over-set (text ∷ texts) [] i value h = absurd (omega arith)
+over-set (text ∷ texts) (None ∷ staged) zero value h = refl
+over-set (text ∷ texts) (Some new ∷ staged) zero value h = refl
+over-set (text ∷ texts) (None ∷ staged) (suc i) value h = ap (λ l. text ∷ l) (over-set texts staged i value (omega arith))
+over-set (text ∷ texts) (Some new ∷ staged) (suc i) value h = ap (λ l. new ∷ l) (over-set texts staged i value (omega arith))
+
+-- the last text that is staged takes its place first
+pub over-last : (texts : List (List ℕ)) (staged : List (Option (List ℕ))) (next : Option (List ℕ)) (d : List ℕ) → length staged < length texts
+    → staged_over (set texts (length staged) (unwrap_or next (get_or texts (length staged) d))) staged ≡ staged_over texts (staged ++ next ∷ [])
+over-last [] staged next d h = absurd (omega arith)
+over-last (text ∷ texts) [] None d h = ap (λ l. text ∷ l) (sym (over-none texts))
+over-last (text ∷ texts) [] (Some new) d h = ap (λ l. new ∷ l) (sym (over-none texts))
+over-last (text ∷ texts) (None ∷ staged) next d h = ap (λ l. text ∷ l) (over-last texts staged next d (omega arith))
+over-last (text ∷ texts) (Some new ∷ staged) next d h = ap (λ l. new ∷ l) (over-last texts staged next d (omega arith))
+
+pub over-step : (texts : List (List ℕ)) (all staged : List (Option (List ℕ))) (next : Option (List ℕ)) (i : ℕ) (old new : List ℕ) → all ≡ staged ++ next ∷ [] → length all ≤ length texts → i ≡ length staged → old ≡ get_or texts i old → new ≡ unwrap_or next old
+    → (staged_over (set texts i new) staged ≡ staged_over texts all) × (length staged ≤ length (set texts i new))
+over-step texts all staged next i old new split fits place read is =
+    let longer = length-append staged (next ∷ []) in (
+      ap (λ k. staged_over (set texts k new) staged) place ∙ ap (λ t. staged_over (set texts (length staged) t) staged) (is ∙ ap (unwrap_or next) (read ∙ ap (λ k. get_or texts k old) place))
+          ∙ over-last texts staged next old (omega (arith, longer, ap length split)) ∙ ap (staged_over texts) (sym split),
+      omega (arith, longer, ap length split, length-set texts i new),
+    )
+
+-- texts staged so far and pairs left make the whole
+pub record IsStaged (node_type : NodeType) (pairs left : List (List ℕ)) (staged : List (Option (List ℕ))) : Type 0 where
   pub refusal : refusal_of_pairs node_type left ≡ refusal_of_pairs node_type pairs
-  pub texts : (texts : List (List ℕ)) → with_pairs node_type (edited texts edits) left ≡ with_pairs node_type texts pairs
-  pub within : AreWithin (length (parms_of node_type)) edits
+  pub texts : (texts : List (List ℕ)) → with_pairs node_type (staged_over texts staged) left ≡ with_pairs node_type texts pairs
+  pub places : length staged ≡ length (parms_of node_type)
 
-edited-push : (texts : List (List ℕ)) (edits : List Edit) (e : Edit) → edited texts (edits ++ e ∷ []) ≡ slice_set (edited texts edits) e.at e.text
-edited-push texts [] e = refl
-edited-push texts (d ∷ edits) e = edited-push (slice_set texts d.at d.text) edits e
-
-within-push : (n : ℕ) (edits : List Edit) (e : Edit) → AreWithin n edits → e.at < n → AreWithin n (edits ++ e ∷ [])
-within-push n [] e w h = (h, tt)
-within-push n (d ∷ edits) e w h = (w.0, within-push n edits e w.1 h)
+pub staged-start : (node_type : NodeType) (pairs : List (List ℕ)) (n : ℕ) (staged : List (Option (List ℕ))) → n ≡ length (parms_of node_type) → staged ≡ replicate n None → IsStaged node_type pairs pairs staged
+staged-start node_type pairs n staged all none = record {
+  refusal = refl;
+  texts = λ texts. ap (λ l. with_pairs node_type (staged_over texts l) pairs) none ∙ ap (λ t. with_pairs node_type t pairs) (over-start n texts);
+  places = ap length none ∙ length-replicate n None ∙ all;
+}
 
 take-rest : {A : Type 0} (xs : List A) → take (suc (suc (length xs)) - 2) xs ≡ xs
 take-rest xs = let e : suc (suc (length xs)) - 2 ≡ length xs = omega arith in ap (λ k. take k xs) e ∙ take-length xs
 
-staged-on : (node_type : NodeType) (pairs rest : List (List ℕ)) (name value : List ℕ) (edits : List Edit) (e : Edit)
-    → IsStaged node_type pairs (name ∷ value ∷ rest) edits → refusal_of_pair node_type name value ≡ None → position (λ p. bytes_eq p.name name) (parms_of node_type) ≡ Some e.at → e.text ≡ value
-    → IsStaged node_type pairs rest (edits ++ e ∷ [])
-staged-on node_type pairs rest name value edits e s fine at is = record {
-  refusal = ap (λ end. first_of end (refusal_of_pairs node_type rest)) (sym fine) ∙ s.refusal;
-  texts = λ texts.
-      ap (λ t. with_pairs node_type t rest) (edited-push texts edits e ∙ ap (slice_set (edited texts edits) e.at) is ∙ ap (λ place. set_at place (edited texts edits) value) (sym at))
-      ∙ s.texts texts;
-  within = within-push (length (parms_of node_type)) edits e s.within (position-within (λ p. bytes_eq p.name name) (parms_of node_type) e.at at);
-}
+staged-on : (node_type : NodeType) (pairs rest : List (List ℕ)) (name value : List ℕ) (staged : List (Option (List ℕ))) (e : Edit)
+    → IsStaged node_type pairs (name ∷ value ∷ rest) staged → refusal_of_pair node_type name value ≡ None → position (λ p. bytes_eq p.name name) (parms_of node_type) ≡ Some e.at → e.text ≡ value
+    → IsStaged node_type pairs rest (set staged e.at (Some e.text))
+staged-on node_type pairs rest name value staged e s fine at is =
+    let within : e.at < length staged = omega (arith, position-within (λ p. bytes_eq p.name name) (parms_of node_type) e.at at, s.places) in
+    record {
+      refusal = ap (λ end. first_of end (refusal_of_pairs node_type rest)) (sym fine) ∙ s.refusal;
+      texts = λ texts.
+          ap (λ t. with_pairs node_type t rest) (over-set texts staged e.at e.text within ∙ ap (slice_set (staged_over texts staged) e.at) is ∙ ap (λ place. set_at place (staged_over texts staged) value) (sym at))
+          ∙ s.texts texts;
+      places = length-set staged e.at (Some e.text) ∙ s.places;
+    }
 
-pub staged-step : (node_type : NodeType) (pairs left rest : List (List ℕ)) (name value : List ℕ) (edits : List Edit) (e : Edit)
-    → IsStaged node_type pairs left edits → 2 ≤ length left → name ≡ get_or left 0 name → value ≡ get_or left 1 value → rest ≡ take (length left - 2) (drop 2 left)
+pub staged-step : (node_type : NodeType) (pairs left rest : List (List ℕ)) (name value : List ℕ) (staged : List (Option (List ℕ))) (e : Edit)
+    → IsStaged node_type pairs left staged → 2 ≤ length left → name ≡ get_or left 0 name → value ≡ get_or left 1 value → rest ≡ take (length left - 2) (drop 2 left)
     → refusal_of_pair node_type name value ≡ None → position (λ p. bytes_eq p.name name) (parms_of node_type) ≡ Some e.at → e.text ≡ value
-    → IsStaged node_type pairs rest (edits ++ e ∷ [])
-staged-step node_type pairs [] rest name value edits e s two n v r fine at is = absurd (omega arith)
-staged-step node_type pairs (a ∷ []) rest name value edits e s two n v r fine at is = absurd (omega arith)
-staged-step node_type pairs (a ∷ b ∷ more) rest name value edits e s two n v r fine at is =
+    → IsStaged node_type pairs rest (set staged e.at (Some e.text))
+staged-step node_type pairs [] rest name value staged e s two n v r fine at is = absurd (omega arith)
+staged-step node_type pairs (a ∷ []) rest name value staged e s two n v r fine at is = absurd (omega arith)
+staged-step node_type pairs (a ∷ b ∷ more) rest name value staged e s two n v r fine at is =
     let behind : rest ≡ more = r ∙ take-rest more in
     let same : a ∷ b ∷ more ≡ name ∷ value ∷ rest = rw (n, v, behind) refl in
-    staged-on node_type pairs rest name value edits e (subst (λ l. IsStaged node_type pairs l edits) same s) fine at is
+    staged-on node_type pairs rest name value staged e (subst (λ l. IsStaged node_type pairs l staged) same s) fine at is
 
 -- texts that are set stay texts that their parameters take
 values-set : (parms : List Parm) (texts : List (List ℕ)) (i : ℕ) (p : Parm) (value : List ℕ) → AreValues parms texts → slice_get parms i ≡ Some p → IsTrue (is_value p.kind value) → AreValues parms (slice_set texts i value)

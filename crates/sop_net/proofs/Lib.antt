@@ -1,4 +1,5 @@
-pub mod WholeLemmas
+pub mod NoMemory
+pub mod TableLemmas
 pub mod PlaceLemmas
 pub mod RankLemmas
 pub mod KeptLemmas

@@ -4,7 +4,6 @@ use Rattle.std.specs.Prelude.{None, Some, Ok, position, bytes_eq, slice_set}
 use Rattle.sop_net.specs.declared.edit.Edit.{Edit}
 use Rattle.sop_net.specs.declared.node_type.NodeType.{NodeType}
 use Rattle.sop_net.specs.declared.node.Node.{Node}
-use Rattle.sop_net.specs.Edits.{AreWithin}
 use Rattle.sop_net.specs.Network.{Network, place_named, IsNodeOf}
 use Rattle.sop_net.specs.NodeTable.{parms_of}
 use Rattle.sop_net.specs.Order.{IsKept}
@@ -19,8 +18,8 @@ module _ (nodes : List Node) (names : List (List ℕ)) (order : List ℕ) (added
   same-type : m.node_type ≡ n.node_type
   same-type = ap (λ k. k.node_type) (same-read nodes at m n within judged read)
 
-  pub room : (edits : List Edit) → AreWithin (length (parms_of m.node_type)) edits → AreWithin (length n.parms) edits
-  room edits w = subst (λ k. AreWithin k edits) (ap (λ k. length (parms_of k)) same-type ∙ sym (values-length (parms_of n.node_type) n.parms is-node.parms)) w
+  pub as-many : (count : ℕ) → count ≡ length (parms_of m.node_type) → count ≡ length n.parms
+  as-many count is = is ∙ ap (λ k. length (parms_of k)) same-type ∙ sym (values-length (parms_of n.node_type) n.parms is-node.parms)
 
   pub place-room : (i : ℕ) → i < length (parms_of m.node_type) → i < length n.parms
   place-room i h = subst (λ k. i < k) (ap (λ k. length (parms_of k)) same-type ∙ sym (values-length (parms_of n.node_type) n.parms is-node.parms)) h

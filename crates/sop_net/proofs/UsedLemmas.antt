@@ -1,5 +1,5 @@
 -- Used wires in turn, and their sources.
-use Rattle.std.proofs.Common.{◌≡◌, ap, sym, refl, ◌∙◌, subst, ℕ, zero, suc, ◌+◌, ◌-◌, ◌<◌, List, [], ◌∷◌, ◌++◌, take, arith, add-one}
+use Rattle.std.proofs.Common.{◌≡◌, ap, sym, refl, ◌∙◌, subst, ℕ, zero, suc, ◌+◌, ◌-◌, ◌<◌, List, [], ◌∷◌, ◌++◌, length, take, get_or, arith, add-one}
 use Rattle.std.specs.Prelude.{Option, None, Some, Contains}
 use Rattle.sop_net.specs.Graph.{Within}
 use Rattle.sop_net.specs.declared.node.Node.{Node}
@@ -57,3 +57,12 @@ wired-more wires i source here = ap (λ k. wired (take k wires)) (add-one i) ∙
     by (Some s ∷ wires) zero h = let same : s ≡ source = cc in ap (λ t. t ∷ []) same
     by (None ∷ wires) (suc i) h = by wires i h
     by (Some s ∷ wires) (suc i) h = ap (λ l. s ∷ l) (by wires i h)
+
+-- a wire, as the code reads it
+pub wire_read : (used wires : List (Option ℕ)) (i : ℕ) (wire : Option ℕ) → wires ≡ used → i < length wires → wire ≡ get_or wires i wire → wire_at used i ≡ wire
+wire_read used wires i wire same h read = ap (λ l. wire_at l i) (sym same) ∙ by wires i h ∙ sym read
+  where
+    by : (wires : List (Option ℕ)) (i : ℕ) → i < length wires → wire_at wires i ≡ get_or wires i wire
+    by [] i h = absurd (omega arith)
+    by (first ∷ wires) zero h = refl
+    by (first ∷ wires) (suc i) h = by wires i (omega arith)

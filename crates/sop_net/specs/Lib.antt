@@ -1,3 +1,4 @@
+pub mod Limits
 pub mod NodeTable
 pub mod Rows
 pub mod ParmValues

@@ -3,7 +3,7 @@
 --
 -- A node's number is how many nodes were added before it; it keeps it when others are removed. A wire stands at the number of the input that
 -- it goes into, and names its source by the source's number.
-use Rattle.std.specs.Prelude.{◌≡◌, ℕ, ◌<◌, ◌≤◌, ◌==◌, IsTrue, zero, suc, ⊤, Contains, List, [], ◌∷◌, length, All, Option, None, Some, find, position, slice_get, replicate, option_map, bytes_eq, is_some, unsigned_abs, map, AllPairs}
+use Rattle.std.specs.Prelude.{◌≡◌, ℕ, ◌<◌, ◌≤◌, ◌==◌, IsTrue, zero, suc, ⊤, Contains, List, [], ◌∷◌, length, All, Option, None, Some, find, position, slice_get, replicate, option_map, bytes_eq, is_some, unsigned_abs, unwrap_or, pos, map, AllPairs}
 use Rattle.std.specs.Option.{option_and_then}
 use Rattle.sop_model.specs.Names.{is_name, are_distinct}
 use Rattle.sop_net.specs.declared.node_type.NodeType.{NodeType}
@@ -11,6 +11,7 @@ use Rattle.sop_net.specs.declared.node_type.NodeType.TheVariants as type
 use Rattle.sop_net.specs.declared.node.Node.{Node}
 use Rattle.sop_net.specs.NodeTable.{Parm, inputs_of, parms_of, default_parms}
 use Rattle.sop_net.specs.ParmValues.{is_value, whole_of}
+use Rattle.sop_net.specs.Limits.{most_nodes}
 use Rattle.sop_net.specs.Graph.{HasNoCycle}
 
 pub record Network : Type 0 where
@@ -72,7 +73,7 @@ parm_at (text ∷ texts) (suc i) = parm_at texts i
 
 -- the input that a switch takes
 abbrev pub switch_input : Node → ℕ
-switch_input n = unsigned_abs (whole_of (parm_at n.parms 0))
+switch_input n = unsigned_abs (unwrap_or (whole_of (parm_at n.parms 0)) (pos 0))
 
 -- the wires that a node uses: of a switch the one into the input that it takes, of every other node all
 abbrev pub wires_used_by : NodeType → Node → List (Option ℕ)
@@ -102,7 +103,7 @@ pub record IsNodeOf (n : Node) : Type 0 where
 
 -- what holds of every network
 pub record IsNetwork (net : Network) : Type 0 where
-  pub few : length net.nodes ≤ 1024
+  pub few : length net.nodes ≤ most_nodes
   pub nodes : All IsNodeOf net.nodes
   pub names : IsTrue (are_distinct (map (λ n. n.name) net.nodes))
   -- numbers rise, and are below the number of nodes added so far

@@ -1,7 +1,7 @@
 -- The steps of a network: a node is added, parameters are set, a wire is set, a node is removed. Each gives the new network, or the first
 -- refusal in the order that its rule names.
-use Rattle.std.specs.Prelude.{ℕ, ◌+◌, ◌-◌, ◌*◌, Bool, ◌&&◌, ◌||◌, not, nat_le, nat_lt, ◌==◌, if◌then◌else◌, List, [], ◌∷◌, ◌++◌, length, map, remove, Option, None, Some, Result, Ok, Err, find, position, is_some, slice_get, slice_set, bytes_eq}
-use Rattle.std.specs.Char.{is_ascii_digit}
+use Rattle.std.specs.Prelude.{ℕ, ◌+◌, Bool, ◌||◌, not, nat_le, nat_lt, ◌==◌, if◌then◌else◌, List, [], ◌∷◌, ◌++◌, length, map, remove, Option, None, Some, Result, Ok, Err, find, position, is_some, slice_get, slice_set, bytes_eq}
+use Rattle.sop_fixed.specs.Numerals.{number_in}
 use Rattle.sop_model.specs.Names.{is_name}
 use Rattle.sop_net.specs.declared.node_type.NodeType.{NodeType}
 use Rattle.sop_net.specs.declared.node.Node.{Node}
@@ -9,6 +9,7 @@ use Rattle.sop_net.specs.declared.net_end.NetEnd.{NetEnd}
 use Rattle.sop_net.specs.declared.net_end.NetEnd.TheVariants.{BadName, NameTaken, NoType, Limit, NoNode, NoParm, BadValue, BadInput, Cycle}
 use Rattle.sop_net.specs.NodeTable.{Parm, type_of_word, parms_of}
 use Rattle.sop_net.specs.ParmValues.{is_value}
+use Rattle.sop_net.specs.Limits.{most_nodes, most_added, most_input_digits}
 use Rattle.sop_net.specs.Graph.{searched}
 use Rattle.sop_net.specs.Network.{Network, place_named, new_node, sources}
 
@@ -18,7 +19,7 @@ Step = Result Network NetEnd
 -- A node is added: BadName for a text that is no name, NameTaken for the name of a node that stands, NoType for another word than a type's,
 -- Limit where 1,024 nodes stand or 2^64 - 1 were added before.
 abbrev pub has_no_room : Network → Bool
-has_no_room net = nat_le 1024 (length net.nodes) || nat_le 18446744073709551615 net.added
+has_no_room net = nat_le most_nodes (length net.nodes) || nat_le most_added net.added
 
 abbrev pub with_node : Network → NodeType → List ℕ → Network
 with_node net node_type name = record { nodes = net.nodes ++ new_node net.added node_type name ∷ []; added = net.added + 1 }
@@ -94,10 +95,7 @@ set_node net name pairs = on_named net name (set_on net pairs)
 -- A wire is set: NoNode for the node, NoNode for the source, BadInput for another text than one or two digits that give a number below the
 -- node's inputs, Cycle where the source is the node or the node is upstream of the source. A former wire there is replaced.
 abbrev pub input_of_text : List ℕ → Option ℕ
-input_of_text [] = None
-input_of_text (a ∷ []) = if is_ascii_digit a then Some (a - 48) else None
-input_of_text (a ∷ b ∷ []) = if is_ascii_digit a && is_ascii_digit b then Some ((a - 48) * 10 + (b - 48)) else None
-input_of_text (a ∷ b ∷ c ∷ text) = None
+input_of_text text = number_in most_input_digits text
 
 -- a bound that no way upstream passes: no node is met twice
 abbrev pub is_upstream : Network → ℕ → ℕ → Bool

@@ -1,8 +1,8 @@
 // Texts that are staged for the parameters of a node: judged and copied before the first is set.
-ghost use Rattle.std.specs.Prelude.{◌≡◌, ◌<◌, ◌⊎◌, ℕ, List, IfOk, IfErr, Some, None, length, map, position, bytes_eq};
+ghost use Rattle.std.specs.Prelude.{◌≡◌, ◌⊎◌, ℕ, List, IfOk, IfErr, Some, None, length, map, position, bytes_eq, replicate};
 ghost use Rattle.sop_net.specs.NodeTable.{parms_of};
 ghost use Rattle.sop_net.specs.Rows.{parm_meant};
-ghost use Rattle.sop_net.specs.Edits.{edited, AreWithin};
+ghost use Rattle.sop_net.specs.Edits.{staged_over};
 ghost use Rattle.sop_net.specs.Steps.{refusal_of_pair, refusal_of_pairs, with_pairs};
 
 use crate::net_end::NetEnd;
@@ -16,12 +16,6 @@ use std::alloc::{AllocError, Global};
 pub struct Edit {
     pub at: usize,
     pub text: Text,
-}
-
-fn place_of_parm(parms: &[Parm], name: &str) -> Option<usize>
-    ensures { result ≡ position (λ p. bytes_eq p.name name.now) (map parm_meant parms.now) }
-{
-    parms.iter().position(|parm| parm.name == name)
 }
 
 /// A text for a parameter of a type, judged: `NoParm`, then `BadValue`.
@@ -42,21 +36,40 @@ pub fn staged(alloc: Global, node_type: NodeType, name: &str, value: &str) -> Re
     Ok(Edit { at, text })
 }
 
-/// Texts for parameters of a type, each parameter followed by its text, judged in turn.
-pub fn staged_pairs(alloc: Global, node_type: NodeType, pairs: &[Text]) -> Result<Vec<Edit>, NetEnd>
-    ensures ok { IfOk result (λ edits. refusal_of_pairs node_type pairs.now ≡ None) }
-    ensures edits { IfOk result (λ edits. (texts : List (List ℕ)) → with_pairs node_type texts pairs.now ≡ edited texts edits.items) }
-    ensures within { IfOk result (λ edits. AreWithin (length (parms_of node_type)) edits.items) }
+fn place_of_parm(parms: &[Parm], name: &str) -> Option<usize>
+    ensures { result ≡ position (λ p. bytes_eq p.name name.now) (map parm_meant parms.now) }
+{
+    parms.iter().position(|parm| parm.name == name)
+}
+
+/// Texts for parameters of a type, each parameter followed by its text, judged in turn: the last one for each parameter, by its place.
+pub fn staged_pairs(
+    alloc: Global,
+    node_type: NodeType,
+    pairs: &[Text],
+) -> Result<Vec<Option<Text>>, NetEnd>
+    ensures ok { IfOk result (λ staged. refusal_of_pairs node_type pairs.now ≡ None) }
+    ensures texts { IfOk result (λ staged. (texts : List (List ℕ)) → with_pairs node_type texts pairs.now ≡ staged_over texts staged.items) }
+    ensures places { IfOk result (λ staged. length staged.items ≡ length (parms_of node_type)) }
     ensures refused { IfErr result (λ end. (end ≡ NetEnd.Memory) ⊎ (refusal_of_pairs node_type pairs.now ≡ Some end)) }
 {
-    let mut edits = Vec::new(alloc);
+    let mut texts = nothing_staged(alloc, node_type.row().parms.len())?;
     let mut left = pairs;
     while let [name, value, rest @ ..] = left {
         let edit = staged(alloc, node_type, name.as_str(), value.as_str())?;
-        if edits.push(edit).is_err() {
-            return Err(NetEnd::Memory);
-        }
+        texts[edit.at] = Some(edit.text);
         left = rest;
     }
-    Ok(edits)
+    Ok(texts)
+}
+
+/// No text for any of so many parameters.
+fn nothing_staged(alloc: Global, parms: usize) -> Result<Vec<Option<Text>>, AllocError>
+    ensures { IfOk result (λ staged. staged.items ≡ replicate parms None) }
+{
+    let mut staged = Vec::with_capacity(alloc, parms)?;
+    for _ in 0..parms {
+        staged.push(None)?;
+    }
+    Ok(staged)
 }

@@ -3,7 +3,8 @@
 
 mod edit;
 mod input;
-mod name;
+mod law;
+pub mod limits;
 mod needs;
 mod net;
 mod net_end;
@@ -14,6 +15,7 @@ mod place;
 mod table;
 mod value;
 
+pub use law::{each_type_is_found, no_step_wants_memory};
 pub use net::Net;
 pub use net_end::NetEnd;
 pub use node::{Node, NodeId, Parms, Sockets, WireList};

@@ -2,74 +2,28 @@
 ghost use Rattle.std.specs.Prelude.{◌≡◌, ◌≤◌, ◌++◌, length, take, drop, All};
 ghost use Rattle.std.specs.List.{list_any};
 ghost use Rattle.std.specs.Option.{option_copied};
+ghost use Rattle.sop_net.specs.Limits.{most_nodes};
 ghost use Rattle.sop_net.specs.Graph.{Within};
 ghost use Rattle.sop_net.specs.Network.{IsLive, used_sources};
 ghost use Rattle.sop_net.specs.Needs.{file_of, is_file_named, needed, with_file};
 ghost use Rattle.sop_net.specs.Listing.{IsListing, IsWritten, with_needs};
 
+use crate::limits::MOST_NODES;
 use crate::net::Net;
 use crate::node::NodeId;
 use crate::node_type::NodeType;
 
-/// The greatest number of inputs of a node.
-const MOST_INPUTS: u32 = 32;
-
-/// The greatest number of nodes.
-const MOST_NODES: usize = 1024;
-
-/// The name of the file that a node loads.
-fn file_name(net: &Net, node: NodeId) -> Option<&str>
-    requires { IsLive net.now.nodes node }
-    ensures { option_copied result ≡ file_of net.now.nodes node }
+/// What `Net::needs` writes and answers.
+pub(crate) fn needs_of(net: &Net, node: NodeId, into: &mut [NodeId]) -> usize
+    requires live { IsLive net.now.nodes node }
+    requires room { most_nodes ≤ length into.old }
+    ensures count { result ≡ length (needed net.now.nodes node) }
+    ensures few { result ≤ most_nodes }
+    ensures written { into.new ≡ needed net.now.nodes node ++ drop result into.old }
 {
     net.is_network();
-    match net.node_type(node) {
-        NodeType::File => Some(net.parms(node).text(0)),
-        _ => None,
-    }
-}
-
-/// Whether a node loads the file of this name.
-fn loads(net: &Net, node: NodeId, name: &str) -> bool
-    requires { IsLive net.now.nodes node }
-    ensures { result ≡ is_file_named (file_of net.now.nodes node) name.now }
-{
-    match file_name(net, node) {
-        Some(file) => file == name,
-        None => false,
-    }
-}
-
-/// Whether one of the listed nodes loads the file of this name.
-///
-/// It looks at each, so that no memory is taken: a full list of 1,024 costs about half a million looks in all.
-fn is_listed(net: &Net, listed: &[NodeId], name: &str) -> bool
-    requires { All (IsLive net.now.nodes) listed.now }
-    ensures { result ≡ list_any (λ y. is_file_named (file_of net.now.nodes y) name.now) listed.now }
-{
-    for node in listed {
-        if loads(net, *node, name) {
-            return true;
-        }
-    }
-    false
-}
-
-/// Lists a node behind the first `count` where it loads a file that none of them loads, and answers how many are listed then.
-fn list(net: &Net, node: NodeId, into: &mut [NodeId], count: usize) -> usize
-    requires live { IsLive net.now.nodes node }
-    requires listed { All (IsLive net.now.nodes) (take count into.old) }
-    requires count { count ≤ length into.old }
-    requires room { length (with_file net.now.nodes (take count into.old) node) ≤ length into.old }
-    ensures { IsWritten into.old into.new result (with_file net.now.nodes (take count into.old) node) }
-{
-    match file_name(net, node) {
-        Some(name) if !is_listed(net, &into[..count], name) => {
-            into[count] = node;
-            count + 1
-        }
-        _ => count,
-    }
+    let mut marks = [false; MOST_NODES];
+    visit(net, node, net.nodes(), &mut marks, into, 0)
 }
 
 /// Lists the files that the cook of a node needs behind the first `count`, and answers how many are listed then.
@@ -97,9 +51,9 @@ fn visit(
         return count;
     }
     net.is_network();
-    for input in 0..MOST_INPUTS {
-        if let Some(source) = net.used_source(node, input) {
-            count = visit(net, source, left - 1, marks, into, count);
+    for wire in net.used_wires(node) {
+        if let Some(source) = wire {
+            count = visit(net, *source, left - 1, marks, into, count);
         }
     }
     count = list(net, node, into, count);
@@ -107,15 +61,56 @@ fn visit(
     count
 }
 
-/// What `Net::needs` writes and answers.
-pub(crate) fn needs_of(net: &Net, node: NodeId, into: &mut [NodeId]) -> usize
+/// Lists a node behind the first `count` where it loads a file that none of them loads, and answers how many are listed then.
+fn list(net: &Net, node: NodeId, into: &mut [NodeId], count: usize) -> usize
     requires live { IsLive net.now.nodes node }
-    requires room { 1024 ≤ length into.old }
-    ensures count { result ≡ length (needed net.now.nodes node) }
-    ensures few { result ≤ 1024 }
-    ensures written { into.new ≡ needed net.now.nodes node ++ drop result into.old }
+    requires listed { All (IsLive net.now.nodes) (take count into.old) }
+    requires count { count ≤ length into.old }
+    requires room { length (with_file net.now.nodes (take count into.old) node) ≤ length into.old }
+    ensures { IsWritten into.old into.new result (with_file net.now.nodes (take count into.old) node) }
 {
-    net.is_network();
-    let mut marks = [false; MOST_NODES];
-    visit(net, node, net.nodes(), &mut marks, into, 0)
+    match file_name(net, node) {
+        Some(name) if !is_listed(net, &into[..count], name) => {
+            into[count] = node;
+            count + 1
+        }
+        _ => count,
+    }
+}
+
+/// The name of the file that a node loads.
+fn file_name(net: &Net, node: NodeId) -> Option<&str>
+    requires { IsLive net.now.nodes node }
+    ensures { option_copied result ≡ file_of net.now.nodes node }
+{
+    match net.node_type(node) {
+        NodeType::File => Some(net.file_name(node)),
+        _ => None,
+    }
+}
+
+/// Whether one of the listed nodes loads the file of this name.
+///
+/// It looks at each, so that no memory is taken: a full list of 1,024 costs about half a million looks in all.
+fn is_listed(net: &Net, listed: &[NodeId], name: &str) -> bool
+    requires { All (IsLive net.now.nodes) listed.now }
+    ensures { result ≡ list_any (λ y. is_file_named (file_of net.now.nodes y) name.now) listed.now }
+{
+    for node in listed {
+        if loads(net, *node, name) {
+            return true;
+        }
+    }
+    false
+}
+
+/// Whether a node loads the file of this name.
+fn loads(net: &Net, node: NodeId, name: &str) -> bool
+    requires { IsLive net.now.nodes node }
+    ensures { result ≡ is_file_named (file_of net.now.nodes node) name.now }
+{
+    match file_name(net, node) {
+        Some(file) => file == name,
+        None => false,
+    }
 }

@@ -1,6 +1,9 @@
 // The network and its steps.
 ghost use Rattle.std.specs.Prelude.{◌≡◌, ◌≢◌, ◌<◌, ◌≤◌, ◌⊎◌, ◌%◌, ◌↔◌, true, ◌∷◌, [], ◌+◌, ◌++◌, length, drop, IsTrue, vec_len, vec_capacity, IfOk, IfErr, IfSome, OnOk, OnErr, Ok, Err, Some, option_map, slice_get, map, ℕ, Contains};
-ghost use Rattle.sop_net.specs.Network.{empty_network, node_of, number_named, place_of, place_named, IsLive, IsNetwork, IsNodeOf, wire_at, wires_of, sources, used_sources, used_wires, switch_input};
+ghost use Rattle.sop_net.specs.Network.{empty_network, node_of, number_named, place_of, place_named, IsLive, IsNetwork, IsNodeOf, AreValues, wire_at, wires_of, sources, used_sources, used_wires, switch_input};
+ghost use Rattle.sop_net.specs.declared.node_type.NodeType.{NodeType};
+ghost use Rattle.sop_net.specs.Limits.{most_nodes, most_added, most_inputs};
+ghost use Rattle.sop_net.specs.NodeTable.{parms_of};
 ghost use Rattle.sop_net.specs.Graph.{Within, Reaches, searched};
 ghost use Rattle.sop_net.specs.Steps.{added_node, with_node, set_node, wired_node, removed_node, unwired};
 ghost use Rattle.sop_model.specs.Names.{is_name};
@@ -9,7 +12,7 @@ ghost use Rattle.sop_net.specs.Sockets.{sockets_from, sockets_of};
 
 use crate::edit::{staged, staged_pairs};
 use crate::input::input_below;
-use crate::name::is_name;
+use crate::limits::{MOST_ADDED, MOST_NODES};
 use crate::needs::needs_of;
 use crate::net_end::NetEnd;
 use crate::node::{Node, NodeId, Parms, Sockets};
@@ -17,14 +20,15 @@ use crate::node_type::NodeType;
 use crate::order::{Order, push_reserved};
 use crate::place::place;
 use indexmap::IndexSet;
-use sop_outside::TextList;
+use sop_model::is_name;
+use sop_outside::{Text, TextList};
 use std::alloc::{AllocError, Global};
 use std::marker::Model;
 
 /// A network of at most 1,024 nodes, whose wires never go in a circle.
 ///
 /// A refused call leaves it as it was. `Memory` comes for want of memory alone.
-#[derive(Debug, Drop)]
+#[derive(Drop)]
 pub struct Net {
     alloc: Global,
     nodes: Vec<Node>,
@@ -77,7 +81,7 @@ impl Net {
         let Some(node_type) = NodeType::of_word(word) else {
             return Err(NetEnd::NoType);
         };
-        if self.nodes.len() >= 1024 || self.added == u64::MAX {
+        if self.nodes.len() >= MOST_NODES || self.added == MOST_ADDED {
             return Err(NetEnd::Limit);
         }
         Ok(self.push_node(node_type, name)?)
@@ -87,8 +91,8 @@ impl Net {
     fn push_node(&mut self, node_type: NodeType, name: &str) -> Result<NodeId, AllocError>
         requires name { IsTrue (is_name name.now) }
         requires free { place_named self.old.nodes name.now ≡ None }
-        requires few { length self.old.nodes < 1024 }
-        requires added { self.old.added < 18446744073709551615 }
+        requires few { length self.old.nodes < most_nodes }
+        requires added { self.old.added < most_added }
         ensures ok { IfOk result (λ id. (self.new ≡ with_node self.old node_type name.now) × (id ≡ self.old.added)) }
         ensures err { OnErr result (self.new ≡ self.old) }
     {
@@ -131,12 +135,22 @@ impl Net {
         ensures refused { IfErr result (λ end. (end ≡ NetEnd.Memory) ⊎ (set_node self.old node.now pairs.now ≡ Err end)) }
         ensures err { OnErr result (self.new ≡ self.old) }
     {
+        self.set_pairs(node, pairs.as_slice())
+    }
+
+    /// `set_parms` with its texts as a slice.
+    pub fn set_pairs(&mut self, node: &str, pairs: &[Text]) -> Result<(), NetEnd>
+        requires pairs { length pairs.now % 2 ≡ 0 }
+        ensures ok { OnOk result (set_node self.old node.now pairs.now ≡ Ok self.new) }
+        ensures refused { IfErr result (λ end. (end ≡ NetEnd.Memory) ⊎ (set_node self.old node.now pairs.now ≡ Err end)) }
+        ensures err { OnErr result (self.new ≡ self.old) }
+    {
         let Some(at) = self.place_named(node) else {
             return Err(NetEnd::NoNode);
         };
-        let edits = staged_pairs(self.alloc, self.nodes[at].node_type, pairs.as_slice())?;
+        let staged = staged_pairs(self.alloc, self.nodes[at].node_type, pairs)?;
         let node = &mut self.nodes[at];
-        node.parms.edit(edits);
+        node.parms.set_staged(staged);
         Ok(())
     }
 
@@ -217,10 +231,11 @@ impl Net {
         self.at(node).name.as_str()
     }
 
-    /// The parameters of a node that stands.
+    /// The parameters of a node that stands: texts that those of its type take.
     pub fn parms(&self, node: NodeId) -> &Parms
         requires { IsLive self.now.nodes node }
-        ensures { option_map (λ n. n.parms) (node_of self.now.nodes node) ≡ Some result.now }
+        ensures texts { option_map (λ n. n.parms) (node_of self.now.nodes node) ≡ Some result.now }
+        ensures values { (t : NodeType) → option_map (λ n. n.node_type) (node_of self.now.nodes node) ≡ Some t → AreValues (parms_of t) result.now }
     {
         &self.at(node).parms
     }
@@ -265,7 +280,7 @@ impl Net {
         requires { IsLive self.now.nodes node }
         ensures sockets { option_map sockets_of (node_of self.now.nodes node) ≡ Some (sockets_from result.first result.are_needed result.wires.now) }
         ensures wires { result.wires.now ≡ used_wires (node_of self.now.nodes node) }
-        ensures few { result.first + length result.wires.now ≤ 32 }
+        ensures few { result.first + length result.wires.now ≤ most_inputs }
     {
         self.at(node).sockets()
     }
@@ -284,7 +299,7 @@ impl Net {
         requires live { IsLive self.now.nodes node }
         requires switch { option_map (λ n. n.node_type) (node_of self.now.nodes node) ≡ Some NodeType.Switch }
         ensures value { option_map switch_input (node_of self.now.nodes node) ≡ Some result }
-        ensures range { result < 32 }
+        ensures range { result < most_inputs }
     {
         self.at(node).switch_input() as u32
     }
@@ -316,9 +331,9 @@ impl Net {
     /// wires by input number, inputs before the node. The places behind them stay. `into` has at least 1,024 places.
     pub fn needs(&self, node: NodeId, into: &mut [NodeId]) -> usize
         requires live { IsLive self.now.nodes node }
-        requires room { 1024 ≤ length into.old }
+        requires room { most_nodes ≤ length into.old }
         ensures count { result ≡ length (needed self.now.nodes node) }
-        ensures few { result ≤ 1024 }
+        ensures few { result ≤ most_nodes }
         ensures written { into.new ≡ needed self.now.nodes node ++ drop result into.old }
     {
         needs_of(self, node, into)

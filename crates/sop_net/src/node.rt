@@ -1,13 +1,13 @@
 // Nodes, their parameters and their wires.
-ghost use Rattle.std.specs.Prelude.{◌≡◌, ◌<◌, IfOk, length, map, replicate, slice_get, slice_set, Some, None};
+ghost use Rattle.std.specs.Prelude.{◌≡◌, ◌<◌, IfOk, length, map, replicate, unwrap_or, slice_get, slice_set, Some, None};
 ghost use Rattle.sop_net.specs.NodeTable.{default_parms};
-ghost use Rattle.sop_net.specs.Edits.{edited, AreWithin};
+ghost use Rattle.sop_net.specs.Edits.{staged_over};
+ghost use Rattle.sop_net.specs.Limits.{most_inputs};
 ghost use Rattle.sop_net.specs.Network.{wire_at};
 ghost use Rattle.sop_net.specs.Steps.{unless_from};
 
-use crate::edit::Edit;
 use crate::node_type::NodeType;
-use crate::value::read_whole;
+use crate::value::short_whole;
 use sop_outside::Text;
 use std::alloc::{AllocError, Global};
 use std::marker::Model;
@@ -44,7 +44,7 @@ impl NodeId {
 }
 
 /// The wires of a node by input number: the source of each, or none.
-#[derive(Debug, Drop)]
+#[derive(Drop)]
 pub struct WireList {
     sources: Vec<Option<NodeId>>,
 }
@@ -116,7 +116,7 @@ fn unless_from(wire: Option<NodeId>, source: NodeId) -> Option<NodeId>
 }
 
 /// The texts of a node's parameters, in the order of its type's.
-#[derive(Debug, Drop)]
+#[derive(Drop)]
 pub struct Parms {
     texts: Vec<Text>,
 }
@@ -157,14 +157,23 @@ impl Parms {
         self.texts[i] = text;
     }
 
-    /// Carries out edits in turn, without taking memory.
-    pub(crate) fn edit(&mut self, edits: Vec<Edit>)
-        requires { AreWithin (length self.old) edits.items }
-        ensures { self.new ≡ edited self.old edits.items }
+    /// Sets the texts that are staged, by their places, without taking memory.
+    pub(crate) fn set_staged(&mut self, mut staged: Vec<Option<Text>>)
+        requires { length staged.items ≡ length self.old }
+        ensures { self.new ≡ staged_over self.old staged.items }
     {
-        for edit in edits {
-            self.texts[edit.at] = edit.text;
+        while let Some(text) = staged.pop() {
+            replace(&mut self.texts[staged.len()], text);
         }
+    }
+}
+
+/// Replaces a text where there is another.
+fn replace(text: &mut Text, other: Option<Text>)
+    ensures { text.new ≡ unwrap_or other text.old }
+{
+    if let Some(other) = other {
+        *text = other;
     }
 }
 
@@ -179,7 +188,7 @@ pub struct Sockets<'a> {
 }
 
 /// A node.
-#[derive(Debug, Drop)]
+#[derive(Drop)]
 pub struct Node {
     pub number: NodeId,
     pub name: Text,
@@ -216,10 +225,10 @@ impl Node {
         requires node { IsNodeOf self.now }
         requires switch { self.now.node_type ≡ NodeType.Switch }
         ensures value { result ≡ switch_input self.now }
-        ensures range { result < 32 }
+        ensures range { result < most_inputs }
     {
-        match read_whole(self.parms.text(0).as_bytes()) {
-            Some(input) => input.unsigned_abs() as usize,
+        match short_whole(self.parms.text(0).as_bytes()) {
+            Some(input) => input.get().unsigned_abs() as usize,
             None => unreachable!(),
         }
     }
@@ -242,7 +251,7 @@ impl Node {
     fn first_used(&self) -> usize
         requires { IsNodeOf self.now }
         ensures value { result ≡ first_used self.now.node_type self.now }
-        ensures range { result < 32 }
+        ensures range { result < most_inputs }
     {
         match self.node_type {
             NodeType::Switch => self.switch_input(),

@@ -12,7 +12,7 @@ use std::alloc::{AllocError, Global};
 
 /// The nodes, each behind all that it takes from, and a rank of each by its place in the network: of two nodes the one of lesser rank comes
 /// first.
-#[derive(Debug, Drop)]
+#[derive(Drop)]
 pub struct Order {
     pub nodes: Vec<NodeId>,
     pub ranks: Vec<u64>,

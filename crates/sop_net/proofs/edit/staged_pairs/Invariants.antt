@@ -3,7 +3,7 @@ use Rattle.sop_net.proofs.EditLemmas.{IsStaged}
 use Rattle.sop_net.proofs.edit.staged_pairs.Given as goal
 
 abbrev pub invariant-loop-left : goal.invariant-loop-left
-invariant-loop-left l = IsStaged l.node_type l.pairs l.left l.edits.items
+invariant-loop-left l = IsStaged l.node_type l.pairs l.left l.texts.items
 
 abbrev pub decreases-loop-left : goal.decreases-loop-left
 decreases-loop-left l = length l.left

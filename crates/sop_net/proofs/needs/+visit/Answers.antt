@@ -1,8 +1,7 @@
-use Rattle.std.proofs.Common.{◌∙◌, sym, subst, arith, length, take, ◌≤◌, ◌+◌}
+use Rattle.std.proofs.Common.{◌∙◌, ap, sym, subst, arith, length, take, ◌≤◌, ◌+◌}
 use Rattle.sop_net.specs.Needs.{with_file}
 use Rattle.sop_net.specs.Listing.{IsListing, IsWritten}
-use Rattle.sop_net.proofs.ReadLemmas.{few_used}
-use Rattle.sop_net.proofs.UsedLemmas.{source_used, source_within}
+use Rattle.sop_net.proofs.UsedLemmas.{source_used, source_within, wire_read}
 use Rattle.sop_net.proofs.ListingLemmas.{after_wires, after_wires-past, count-within, IsWritten-start, listed-taken, listing_all, listing_more, marked_read, nothing_new, room, same_written, written_all, written_more}
 use Rattle.sop_net.proofs.needs.+visit.Goals as goal
 use Rattle.sop_net.proofs.needs.+visit.Goals.{in-Some, in_default}
@@ -24,13 +23,13 @@ returns-then-marks-place-clause-listing t c =
 pub visit-count-requires : goal.visit-count-requires
 visit-count-requires t c =
     let nodes = c.args.net.now.nodes in
-    let list = after_wires nodes (take c.args.count c.args.into.now) c.args.node c.loop-input.input in
-    let wire = sym c.used_source.ensures ∙ c.in-Some.is in
-    let step = source_within nodes c.args.left c.args.node c.loop-input.input c.in-Some.source c.requires.within wire in
-    let h = c.loop-input.invariant in (
+    let list = after_wires nodes (take c.args.count c.args.into.now) c.args.node c.loop-wire.wire-index in
+    let wire = wire_read _ _ c.loop-wire.wire-index c.wire-item.result c.used_wires-wire-items.ensures c.loop-wire-test.true c.wire-item.is ∙ c.in-Some.is in
+    let step = source_within nodes c.args.left c.args.node c.loop-wire.wire-index c.in-Some.source c.requires.within wire in
+    let h = c.loop-wire.invariant in (
       omega (arith, step.0, c.decreases),
       (
-        c.is_network.ensures.used_live c.args.node c.in-Some.source (source_used nodes c.args.node c.loop-input.input c.in-Some.source wire),
+        c.is_network.ensures.used_live c.args.node c.in-Some.source (source_used nodes c.args.node c.loop-wire.wire-index c.in-Some.source wire),
         (
           step.1,
           (
@@ -38,8 +37,8 @@ visit-count-requires t c =
             (
               omega arith,
               (
-                count-within c.args.into.now c.loop-input.into c.loop-input.count list h.written,
-                subst (IsListing nodes c.loop-input.marks) (sym (listed-taken c.args.into.now c.loop-input.into c.loop-input.count list h.written)) h.listing,
+                count-within c.args.into.now c.loop-wire.into c.loop-wire.count list h.written,
+                subst (IsListing nodes c.loop-wire.marks) (sym (listed-taken c.args.into.now c.loop-wire.into c.loop-wire.count list h.written)) h.listing,
               ),
             ),
           ),
@@ -47,28 +46,29 @@ visit-count-requires t c =
       ),
     )
 
-pub loop-input-preserved : goal.loop-input-preserved
-loop-input-preserved t c =
+pub loop-wire-preserved : goal.loop-wire-preserved
+loop-wire-preserved t c =
     let nodes = c.args.net.now.nodes in
     let start = take c.args.count c.args.into.now in
-    let h = c.loop-input.invariant in
-    elim c.match-used_source.branch [
+    let h = c.loop-wire.invariant in
+    let read = wire_read _ _ c.loop-wire.wire-index c.wire-item.result c.used_wires-wire-items.ensures c.loop-wire-test.true c.wire-item.is in
+    elim c.match-wire.branch [
       | in-Some w ↦ (
-          let wire = sym c.used_source.ensures ∙ w.in-Some.is in
+          let wire = read ∙ w.in-Some.is in
           record {
-            written = same_written c.args.into.now w.visit-count.new.into c.match-used_source.into w.visit-count.result c.match-used_source.count (after_wires nodes start c.args.node (c.loop-input.input + 1)) w.into-is w.count-is
-                (written_more nodes c.args.into.now c.loop-input.into w.visit-count.new.into c.args.count c.args.node c.loop-input.input w.in-Some.source c.loop-input.count w.visit-count.result wire h.written w.visit-count.ensures.written);
-            listing = subst (λ marks. IsListing nodes marks (after_wires nodes start c.args.node (c.loop-input.input + 1))) (sym w.marks-is)
-                (listing_more nodes w.visit-count.new.marks c.args.into.now c.loop-input.into c.args.count c.args.node c.loop-input.input w.in-Some.source c.loop-input.count wire h.written w.visit-count.ensures.listing);
+            written = same_written c.args.into.now w.visit-count.new.into c.match-wire.into w.visit-count.result c.match-wire.count (after_wires nodes start c.args.node (c.loop-wire.wire-index + 1)) w.into-is w.count-is
+                (written_more nodes c.args.into.now c.loop-wire.into w.visit-count.new.into c.args.count c.args.node c.loop-wire.wire-index w.in-Some.source c.loop-wire.count w.visit-count.result wire h.written w.visit-count.ensures.written);
+            listing = subst (λ marks. IsListing nodes marks (after_wires nodes start c.args.node (c.loop-wire.wire-index + 1))) (sym w.marks-is)
+                (listing_more nodes w.visit-count.new.marks c.args.into.now c.loop-wire.into c.args.count c.args.node c.loop-wire.wire-index w.in-Some.source c.loop-wire.count wire h.written w.visit-count.ensures.listing);
           }
           )
       | in_default w ↦ (
-          let same = after_wires-past nodes start c.args.node c.loop-input.input (sym c.used_source.ensures ∙ w.in_default.is) in
+          let same = after_wires-past nodes start c.args.node c.loop-wire.wire-index (read ∙ w.in_default.is) in
           record {
-            written = subst (IsWritten c.args.into.now c.match-used_source.into c.match-used_source.count) (sym same)
-                (same_written c.args.into.now c.loop-input.into c.match-used_source.into c.loop-input.count c.match-used_source.count (after_wires nodes start c.args.node c.loop-input.input) w.into-is w.count-is h.written);
-            listing = subst (IsListing nodes c.match-used_source.marks) (sym same)
-                (subst (λ marks. IsListing nodes marks (after_wires nodes start c.args.node c.loop-input.input)) (sym w.marks-is) h.listing);
+            written = subst (IsWritten c.args.into.now c.match-wire.into c.match-wire.count) (sym same)
+                (same_written c.args.into.now c.loop-wire.into c.match-wire.into c.loop-wire.count c.match-wire.count (after_wires nodes start c.args.node c.loop-wire.wire-index) w.into-is w.count-is h.written);
+            listing = subst (IsListing nodes c.match-wire.marks) (sym same)
+                (subst (λ marks. IsListing nodes marks (after_wires nodes start c.args.node c.loop-wire.wire-index)) (sym w.marks-is) h.listing);
           }
           )
     ]
@@ -76,21 +76,21 @@ loop-input-preserved t c =
 pub list-count-requires-clause-room : goal.list-count-requires-clause-room
 list-count-requires-clause-room t c =
     let nodes = c.args.net.now.nodes in
-    let list = after_wires nodes (take c.args.count c.args.into.now) c.args.node c.loop-input.input in
-    let h = c.loop-input.invariant in
+    let list = after_wires nodes (take c.args.count c.args.into.now) c.args.node c.loop-wire.wire-index in
+    let h = c.loop-wire.invariant in
     let few = room nodes list c.args.node h.listing.live h.listing.distinct c.requires.live in
-    subst (λ l. length (with_file nodes l c.args.node) ≤ length c.loop-input.into) (sym (listed-taken c.args.into.now c.loop-input.into c.loop-input.count list h.written)) (omega (arith, few))
+    subst (λ l. length (with_file nodes l c.args.node) ≤ length c.loop-wire.into) (sym (listed-taken c.args.into.now c.loop-wire.into c.loop-wire.count list h.written)) (omega (arith, few))
 
 pub returns-clause-written : goal.returns-clause-written
 returns-clause-written t c =
     let nodes = c.args.net.now.nodes in
-    let few = few_used nodes c.args.node c.is_network.ensures.network.nodes in
-    written_all nodes c.args.into.now c.loop-input.into c.list-count.new.into c.args.count c.args.node c.loop-input.input c.loop-input.count c.list-count.result
-    (c.is_network.ensures.within_used c.args.node c.requires.live) (omega (arith, few)) c.loop-input.invariant.written c.list-count.ensures
+    let all = c.used_wires-wire-items.ensures in
+    written_all nodes c.args.into.now c.loop-wire.into c.list-count.new.into c.args.count c.args.node c.loop-wire.wire-index c.loop-wire.count c.list-count.result
+    (c.is_network.ensures.within_used c.args.node c.requires.live) (omega (arith, ap length all)) c.loop-wire.invariant.written c.list-count.ensures
 
 pub returns-clause-listing : goal.returns-clause-listing
 returns-clause-listing t c =
     let nodes = c.args.net.now.nodes in
-    let few = few_used nodes c.args.node c.is_network.ensures.network.nodes in
-    listing_all nodes c.loop-input.marks (take c.args.count c.args.into.now) c.args.node c.loop-input.input c.place-place.result
-    (c.is_network.ensures.within_used c.args.node c.requires.live) (omega (arith, few)) c.requires.live c.place-place.ensures c.loop-input.invariant.listing
+    let all = c.used_wires-wire-items.ensures in
+    listing_all nodes c.loop-wire.marks (take c.args.count c.args.into.now) c.args.node c.loop-wire.wire-index c.place-place.result
+    (c.is_network.ensures.within_used c.args.node c.requires.live) (omega (arith, ap length all)) c.requires.live c.place-place.ensures c.loop-wire.invariant.listing
