@@ -14,7 +14,8 @@ use Rattle.sop_model.specs.Vertices.{size_of, corners_of}
 use Rattle.sop_model.specs.Geometry.{heads_of, empty_geo, IsWithin, Fits, IsReadable}
 use Rattle.sop_model.specs.Plain.{IsPlain, plain_append, shifted_prim, shifted_corner}
 use Rattle.sop_model.proofs.PlainLemmas.{IsPlain-from_sound}
-use Rattle.sop_model.proofs.PlainMerge.{IsPlain-append, IsPlain-empty_geo, IsSound-append, IsSound-empty_geo, corners_of-append, All-left, All-right}
+use Rattle.sop_model.proofs.PlainMerge.{IsPlain-append, IsPlain-empty_geo, IsSound-append, IsSound-empty_geo, corners_of-append}
+use Rattle.sop_model.proofs.RowLists.{All-left, All-right}
 use Rattle.sop_cook.specs.Keeping.{IsReady, is_over_limits, are_over}
 use Rattle.sop_cook.proofs.MergeLemmas.{geo_weight-plain}
 

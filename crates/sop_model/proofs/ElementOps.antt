@@ -17,6 +17,7 @@ use Rattle.sop_model.specs.Geometry.{heads_of, rows_of, count_of, IsNamed, IsRow
 use Rattle.sop_model.specs.Rows.{default_row, points_added, new_corner, new_prim, prim_added, points_for, corners_added, vertices_added, ArePoints, ArePlaces}
 use Rattle.sop_model.proofs.RowLists.{All-under_map, All-left, All-right}
 use Rattle.sop_model.proofs.RowSound.{IsRowOf-default_row}
+use Rattle.sop_model.proofs.LimitsLemmas.{IsWithin-from, within_points, within_prims, within_vertices, within_heads, within_groups}
 
 -- VERTICES AND PRIMITIVES ONE BY ONE
 
@@ -70,17 +71,17 @@ module _ (g : Geo) (n : ℕ) where
   IsGood-points_added good = record { sound = IsSound-points_added good.sound; corners = good.corners }
 
   pub IsWithin-points_added : IsWithin g → count_of g Point + n ≤ most_points → IsWithin (points_added g n)
-  IsWithin-points_added within few = record {
-    points = let e = count_of-points_added in omega arith;
-    prims = within.prims;
-    vertices = within.vertices;
-    heads = λ class. subst (λ (set : HeadSet). length set.heads ≤ most_heads) (sym (heads_of-points_added class)) (within.heads class);
-    groups = λ class. subst (λ (set : HeadSet). length set.groups ≤ most_groups) (sym (heads_of-points_added class)) (within.groups class);
-  }
+  IsWithin-points_added within few =
+      IsWithin-from (points_added g n)
+      (let e = count_of-points_added in omega arith)
+      (within_prims within)
+      (within_vertices within)
+      (λ class. subst (λ (set : HeadSet). length set.heads ≤ most_heads) (sym (heads_of-points_added class)) (within_heads within class))
+      (λ class. subst (λ (set : HeadSet). length set.groups ≤ most_groups) (sym (heads_of-points_added class)) (within_groups within class))
 
   -- and no further
   pub few-points_added : IsWithin (points_added g n) → count_of g Point + n ≤ most_points
-  few-points_added within = let a = within.points in let e = count_of-points_added in omega arith
+  few-points_added within = let a = (within_points within) in let e = count_of-points_added in omega arith
 
 -- A PRIMITIVE ADDED
 
@@ -140,19 +141,19 @@ module _ (g : Geo) (closed : Bool) (points : List ℕ) where
   }
 
   pub IsWithin-prim_added : IsWithin g → count_of g Prim < most_prims → count_of g Vertex + length points ≤ most_vertices → IsWithin (prim_added g closed points)
-  IsWithin-prim_added within few few_vertices = record {
-    points = within.points;
-    prims = let a = prims_many in let b = length-map g.prims (λ p. p.row) in omega arith;
-    vertices = let a = vertices_many in let b = length-map (corners_of g.prims) (λ c. c.row) in omega arith;
-    heads = λ class. subst (λ (set : HeadSet). length set.heads ≤ most_heads) (sym (heads_of-prim_added class)) (within.heads class);
-    groups = λ class. subst (λ (set : HeadSet). length set.groups ≤ most_groups) (sym (heads_of-prim_added class)) (within.groups class);
-  }
+  IsWithin-prim_added within few few_vertices =
+      IsWithin-from (prim_added g closed points)
+      (within_points within)
+      (let a = prims_many in let b = length-map g.prims (λ p. p.row) in omega arith)
+      (let a = vertices_many in let b = length-map (corners_of g.prims) (λ c. c.row) in omega arith)
+      (λ class. subst (λ (set : HeadSet). length set.heads ≤ most_heads) (sym (heads_of-prim_added class)) (within_heads within class))
+      (λ class. subst (λ (set : HeadSet). length set.groups ≤ most_groups) (sym (heads_of-prim_added class)) (within_groups within class))
 
   -- and no further
   pub few-prim_added : IsWithin (prim_added g closed points) → (count_of g Prim < most_prims) × (count_of g Vertex + length points ≤ most_vertices)
   few-prim_added within =
-      let a = within.prims in let b = prims_many in let c = length-map g.prims (λ p. p.row) in
-      let d = within.vertices in let e = vertices_many in let f = length-map (corners_of g.prims) (λ c. c.row) in
+      let a = (within_prims within) in let b = prims_many in let c = length-map g.prims (λ p. p.row) in
+      let d = (within_vertices within) in let e = vertices_many in let f = length-map (corners_of g.prims) (λ c. c.row) in
       (omega arith, omega arith)
 
 -- VERTICES ADDED
@@ -305,17 +306,17 @@ module _ (g : Geo) (adds : List (ℕ × ℕ)) where
   IsGood-vertices_added good are = record { sound = IsSound-vertices_added good.sound are; corners = sizes_more g adds 0 g.prims good.corners }
 
   pub IsWithin-vertices_added : IsWithin g → ArePlaces g adds → count_of g Vertex + length adds ≤ most_vertices → IsWithin (vertices_added g adds)
-  IsWithin-vertices_added within are few = record {
-    points = within.points;
-    prims = let a = length-corners_added g adds 0 g.prims in let b = within.prims in omega arith;
-    vertices = let a = vertices_all are in let b = length-map (corners_of g.prims) (λ c. c.row) in omega arith;
-    heads = λ class. subst (λ (set : HeadSet). length set.heads ≤ most_heads) (sym (heads_of-vertices_added class)) (within.heads class);
-    groups = λ class. subst (λ (set : HeadSet). length set.groups ≤ most_groups) (sym (heads_of-vertices_added class)) (within.groups class);
-  }
+  IsWithin-vertices_added within are few =
+      IsWithin-from (vertices_added g adds)
+      (within_points within)
+      (let a = length-corners_added g adds 0 g.prims in let b = (within_prims within) in omega arith)
+      (let a = vertices_all are in let b = length-map (corners_of g.prims) (λ c. c.row) in omega arith)
+      (λ class. subst (λ (set : HeadSet). length set.heads ≤ most_heads) (sym (heads_of-vertices_added class)) (within_heads within class))
+      (λ class. subst (λ (set : HeadSet). length set.groups ≤ most_groups) (sym (heads_of-vertices_added class)) (within_groups within class))
 
   -- and no further
   pub few-vertices_added : IsWithin (vertices_added g adds) → ArePlaces g adds → count_of g Vertex + length adds ≤ most_vertices
-  few-vertices_added within are = let a = within.vertices in let b = vertices_all are in let c = length-map (corners_of g.prims) (λ c. c.row) in omega arith
+  few-vertices_added within are = let a = (within_vertices within) in let b = vertices_all are in let c = length-map (corners_of g.prims) (λ c. c.row) in omega arith
 
 -- one list behind another, and both in a row
 pub vertices_added-append : (g : Geo) (adds more : List (ℕ × ℕ)) → vertices_added g (adds ++ more) ≡ vertices_added (vertices_added g adds) more

@@ -21,6 +21,7 @@ use Rattle.sop_model.specs.Geometry.{empty_row, heads_of, rows_of, count_of, IsN
 use Rattle.sop_model.specs.Rows.{renumbered_corner, renumbered, place_in, no_prim, picked, reordered, IsOrderOf}
 use Rattle.sop_model.proofs.RowLists.{All-under_map}
 use Rattle.sop_model.proofs.ElementOps.{IsSoundCorner, sound_corners, All-by_prim, All-corners}
+use Rattle.sop_model.proofs.LimitsLemmas.{IsWithin-from, within_points, within_prims, within_vertices, within_heads, within_groups}
 
 -- OTHER NUMBERS OF POINTS
 
@@ -147,13 +148,13 @@ module _ (g : Geo) (perm : List ℕ) where
   }
 
   IsWithin-points : IsWithin g → IsOrderOf (count_of g Point) perm → IsWithin (reordered g Point perm)
-  IsWithin-points within is = record {
-    points = let a = length-map perm (λ i. get_or g.points i empty_row) in let b = length-order (length g.points) perm is in let c = within.points in omega arith;
-    prims = let a = length-map g.prims (renumbered (place_in perm)) in let b = within.prims in omega arith;
-    vertices = let a = vertices_of-renumbered (place_in perm) g.prims in let b = within.vertices in omega arith;
-    heads = within.heads;
-    groups = within.groups;
-  }
+  IsWithin-points within is =
+      IsWithin-from (reordered g Point perm)
+      (let a = length-map perm (λ i. get_or g.points i empty_row) in let b = length-order (length g.points) perm is in let c = (within_points within) in omega arith)
+      (let a = length-map g.prims (renumbered (place_in perm)) in let b = (within_prims within) in omega arith)
+      (let a = vertices_of-renumbered (place_in perm) g.prims in let b = (within_vertices within) in omega arith)
+      (within_heads within)
+      (within_groups within)
 
   -- PRIMITIVES
   pub prims_of-reordered : IsOrderOf (count_of g Prim) perm → rows_of (reordered g Prim perm) Prim ≡ picked (rows_of g Prim) empty_row perm
@@ -196,13 +197,13 @@ module _ (g : Geo) (perm : List ℕ) where
   vertices_same is = length-flat_map (λ p. p.corners) (picked g.prims no_prim perm) ∙ sum_by-IsPermutation size_of g.prims (picked g.prims no_prim perm) (prims_permuted is) ∙ sym (length-flat_map (λ p. p.corners) g.prims)
 
   IsWithin-prims : IsWithin g → IsOrderOf (count_of g Prim) perm → IsWithin (reordered g Prim perm)
-  IsWithin-prims within is = record {
-    points = within.points;
-    prims = let a = length_permutation g.prims (picked g.prims no_prim perm) (prims_permuted is) in let b = within.prims in omega arith;
-    vertices = let a = vertices_same is in let b = within.vertices in omega arith;
-    heads = within.heads;
-    groups = within.groups;
-  }
+  IsWithin-prims within is =
+      IsWithin-from (reordered g Prim perm)
+      (within_points within)
+      (let a = length_permutation g.prims (picked g.prims no_prim perm) (prims_permuted is) in let b = (within_prims within) in omega arith)
+      (let a = vertices_same is in let b = (within_vertices within) in omega arith)
+      (within_heads within)
+      (within_groups within)
 
   -- AS MANY ELEMENTS OF EACH CLASS
   points_counted : IsOrderOf (count_of g Point) perm → (class : Class) → count_of (reordered g Point perm) class ≡ count_of g class

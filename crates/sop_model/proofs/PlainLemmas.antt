@@ -1,7 +1,7 @@
 -- Lemmas on plain geometries: what their rows are, and what their merge is.
-use Rattle.std.proofs.Common.{◌≡◌, Bool, ◌<◌, List, [], ◌∷◌, length, refl, sym, ◌∙◌, ap, subst, arith}
+use Rattle.std.proofs.Common.{◌≡◌, Bool, ◌<◌, List, [], ◌∷◌, length, refl, sym, ◌∙◌, ap, subst}
 use Rattle.std.specs.Prelude.{map, All}
-use Rattle.std.proofs.lemmas.List.{length-map, get_or-map, nil_from_length}
+use Rattle.std.proofs.lemmas.List.{nil_from_length}
 use Rattle.std.proofs.lemmas.List.Elements.{All-nil, All-cons, All-head, All-tail, All-weaker, All-map}
 use Rattle.sop_fixed.specs.declared.vec3.Vec3.{Vec3}
 use Rattle.sop_model.specs.declared.class.Class.{Class}
@@ -12,14 +12,10 @@ use Rattle.sop_model.specs.declared.value.Kind.TheVariants as kind
 use Rattle.sop_model.specs.declared.value.Value.{Value}
 use Rattle.sop_model.specs.declared.value.Value.TheVariants as value
 use Rattle.sop_model.specs.Values.{kind_of}
-use Rattle.sop_model.specs.Vertices.{corners_of}
-use Rattle.sop_model.specs.Geometry.{heads_of, rows_of, empty_row, no_heads, only_position, HasOnlyPosition, IsNamed, IsRowOf, IsSound, BeginsWithPosition}
+use Rattle.sop_model.specs.Vertices.{size_of, corners_of}
+use Rattle.sop_model.specs.Geometry.{heads_of, rows_of, empty_row, no_heads, only_position, HasOnlyPosition, IsNamed, IsRowOf, IsSound, IsGood, BeginsWithPosition}
 use Rattle.sop_model.specs.Plain.{point_row, IsPointRow, IsPlain}
-
--- lists
-
-All-unmap : {X Y : Type 0} (P : X → Type 0) (f : Y → X) (ys : List Y) → All P (map f ys) → All (λ y. P (f y)) ys
-All-unmap P f ys all k d lt = subst P (get_or-map f ys k d (f d) lt) (all k (f d) (omega (arith, length-map ys f)))
+use Rattle.sop_model.proofs.RowLists.{All-under_map}
 
 -- what the rows of a plain geometry are
 
@@ -54,12 +50,6 @@ row_of_position row is =
     let alone = vector_alone row.values is.kinds in
     (alone.0, row_same row (point_row alone.0) alone.1 (nil_from_length row.flags is.flags))
 
-empty_row_of_none : (row : Row) → row ≡ empty_row → IsRowOf no_heads row
-empty_row_of_none row is = subst (IsRowOf no_heads) (sym is) (record { kinds = refl; flags = refl })
-
-point_row_of_position : (row : Row) → IsPointRow row → IsRowOf only_position row
-point_row_of_position row is = subst (IsRowOf only_position) (sym is.1) (record { kinds = refl; flags = refl })
-
 -- a well made geometry whose only attribute is `P` is plain
 pub IsPlain-from_sound : (g : Geo) → IsSound g → HasOnlyPosition g → IsPlain g
 IsPlain-from_sound g sound only =
@@ -70,10 +60,27 @@ IsPlain-from_sound g sound only =
     record {
       only = only;
       points = All-weaker (IsRowOf only_position) IsPointRow row_of_position g.points point_rows;
-      prims = All-unmap (λ row. row ≡ empty_row) (λ p. p.row) g.prims (All-weaker (IsRowOf no_heads) (λ row. row ≡ empty_row) row_of_none (rows_of g Prim) prim_rows);
-      corners = All-unmap (λ row. row ≡ empty_row) (λ c. c.row) (corners_of g.prims) (All-weaker (IsRowOf no_heads) (λ row. row ≡ empty_row) row_of_none (rows_of g Vertex) vertex_rows);
+      prims = All-under_map (λ row. row ≡ empty_row) (λ p. p.row) g.prims (All-weaker (IsRowOf no_heads) (λ row. row ≡ empty_row) row_of_none (rows_of g Prim) prim_rows);
+      corners = All-under_map (λ row. row ≡ empty_row) (λ c. c.row) (corners_of g.prims) (All-weaker (IsRowOf no_heads) (λ row. row ≡ empty_row) row_of_none (rows_of g Vertex) vertex_rows);
       detail = row_of_none g.detail_row (All-head (IsRowOf no_heads) g.detail_row [] detail_rows);
     }
+
+-- what holds of the empty row, and of the row of a point, holds of each row of a plain geometry
+
+pub prim_rows : (Q : Row → Type 0) → Q empty_row → (g : Geo) → IsPlain g → All Q (rows_of g Prim)
+prim_rows Q holds g plain = All-map Q (λ p. p.row) g.prims (All-weaker (λ p. p.row ≡ empty_row) (λ p. Q p.row) (λ p is. subst Q (sym is) holds) g.prims plain.prims)
+
+pub point_rows : (Q : Row → Type 0) → ((v : Vec3) → Q (point_row v)) → (g : Geo) → IsPlain g → All Q g.points
+point_rows Q holds g plain = All-weaker IsPointRow Q (λ row is. subst Q (sym is.1) (holds is.0)) g.points plain.points
+
+pub vertex_rows : (Q : Row → Type 0) → Q empty_row → (g : Geo) → IsPlain g → All Q (rows_of g Vertex)
+vertex_rows Q holds g plain = All-map Q (λ c. c.row) (corners_of g.prims) (All-weaker (λ c. c.row ≡ empty_row) (λ c. Q c.row) (λ c is. subst Q (sym is) holds) (corners_of g.prims) plain.corners)
+
+empty_of_none : IsRowOf no_heads empty_row
+empty_of_none = record { kinds = refl; flags = refl }
+
+point_of_position : (v : Vec3) → IsRowOf only_position (point_row v)
+point_of_position v = record { kinds = refl; flags = refl }
 
 named_position : IsNamed only_position
 named_position = record { heads = refl; groups = refl; distinct_heads = refl; distinct_groups = refl }
@@ -88,10 +95,12 @@ named_of g only Point = subst IsNamed (sym only.point) named_position
 named_of g only Vertex = subst IsNamed (sym only.vertex) named_none
 
 rows_as : (g : Geo) → IsPlain g → (class : Class) → All (IsRowOf (heads_of g class)) (rows_of g class)
-rows_as g plain Detail = subst (λ set. All (IsRowOf set) (rows_of g Detail)) (sym plain.only.detail) (All-cons (IsRowOf no_heads) g.detail_row [] (empty_row_of_none g.detail_row plain.detail) (All-nil (IsRowOf no_heads)))
-rows_as g plain Prim = subst (λ set. All (IsRowOf set) (rows_of g Prim)) (sym plain.only.prim) (All-weaker (λ row. row ≡ empty_row) (IsRowOf no_heads) empty_row_of_none (rows_of g Prim) (All-map (λ row. row ≡ empty_row) (λ p. p.row) g.prims plain.prims))
-rows_as g plain Point = subst (λ set. All (IsRowOf set) g.points) (sym plain.only.point) (All-weaker IsPointRow (IsRowOf only_position) point_row_of_position g.points plain.points)
-rows_as g plain Vertex = subst (λ set. All (IsRowOf set) (rows_of g Vertex)) (sym plain.only.vertex) (All-weaker (λ row. row ≡ empty_row) (IsRowOf no_heads) empty_row_of_none (rows_of g Vertex) (All-map (λ row. row ≡ empty_row) (λ c. c.row) (corners_of g.prims) plain.corners))
+rows_as g plain Detail =
+    let row = subst (IsRowOf no_heads) (sym plain.detail) empty_of_none in
+    subst (λ set. All (IsRowOf set) (rows_of g Detail)) (sym plain.only.detail) (All-cons (IsRowOf no_heads) g.detail_row [] row (All-nil (IsRowOf no_heads)))
+rows_as g plain Prim = subst (λ set. All (IsRowOf set) (rows_of g Prim)) (sym plain.only.prim) (prim_rows (IsRowOf no_heads) empty_of_none g plain)
+rows_as g plain Point = subst (λ set. All (IsRowOf set) g.points) (sym plain.only.point) (point_rows (IsRowOf only_position) point_of_position g plain)
+rows_as g plain Vertex = subst (λ set. All (IsRowOf set) (rows_of g Vertex)) (sym plain.only.vertex) (vertex_rows (IsRowOf no_heads) empty_of_none g plain)
 
 -- a plain geometry is well made where its vertices refer to points that it has
 pub IsSound-from_plain : (g : Geo) → IsPlain g → All (λ c. c.point < length g.points) (corners_of g.prims) → IsSound g
@@ -102,6 +111,9 @@ IsSound-from_plain g plain points = record {
   position = subst BeginsWithPosition (sym (ap (λ set. set.heads) plain.only.point)) refl;
   points = points;
 }
+
+pub IsGood-from_plain : (g : Geo) → IsPlain g → All (λ c. c.point < length g.points) (corners_of g.prims) → All (λ p. 0 < size_of p) g.prims → IsGood g
+IsGood-from_plain g plain points corners = record { sound = IsSound-from_plain g plain points; corners = corners }
 
 -- the points of a plain geometry as a list of positions
 pub positions_of : (rows : List Row) → All IsPointRow rows → (vs : List Vec3) × (rows ≡ map point_row vs)

@@ -3,7 +3,7 @@ use Rattle.std.proofs.Common.{◌≡◌, Bool, ℕ, ◌+◌, ◌<◌, List, [], 
 use Rattle.std.specs.Prelude.{map, filter, All, not}
 use Rattle.std.specs.Str.{bytes_eq}
 use Rattle.std.specs.List.{flat_map}
-use Rattle.std.proofs.lemmas.List.{length-append, get_or_append_left, get_or-append-add, map-append, map-id, append-nil}
+use Rattle.std.proofs.lemmas.List.{length-append, map-append, map-id, append-nil}
 use Rattle.std.proofs.lemmas.List.Concat.{flat_map-append}
 use Rattle.std.proofs.lemmas.List.Elements.{All-nil, All-cons, All-head, All-tail, All-append, All-weaker, All-map}
 use Rattle.sop_model.specs.declared.class.Class.TheVariants.{Detail, Prim, Point, Vertex}
@@ -17,6 +17,7 @@ use Rattle.sop_model.specs.declared.value.Value.{Value}
 use Rattle.sop_model.specs.Vertices.{corners_of}
 use Rattle.sop_model.specs.Geometry.{empty_row, no_heads, position_head, only_position, empty_geo, HasOnlyPosition, IsSound}
 use Rattle.sop_model.specs.Merge.{first_heads, first_names, joined_set, row_under, moved_corner, moved_prim, joined_prims, merged, fitted, detail_value}
+use Rattle.sop_model.proofs.RowLists.{All-left, All-right, map_agree}
 use Rattle.sop_model.proofs.PlainLemmas.{IsPlain-from_sound, IsSound-from_plain}
 use Rattle.sop_model.specs.Plain.{IsPointRow, IsPlain, shifted_corner, shifted_prim, shifted_prims, plain_append, plain_merged}
 
@@ -37,20 +38,6 @@ geo_made detail prim point vertex points prims detail_row = record { detail = de
 
 geo_same : {d d' p p' o o' v v' : HeadSet} {points points' : List Row} {prims prims' : List Primitive} {row row' : Row} → d ≡ d' → p ≡ p' → o ≡ o' → v ≡ v' → points ≡ points' → prims ≡ prims' → row ≡ row' → geo_made d p o v points prims row ≡ geo_made d' p' o' v' points' prims' row'
 geo_same d_is p_is o_is v_is points_is prims_is row_is = cc
-
--- what holds of each item of two lists in a row holds of each item of both
-pub All-left : {X : Type 0} (P : X → Type 0) (xs ys : List X) → All P (xs ++ ys) → All P xs
-All-left P xs ys all k d lt = subst P (get_or_append_left xs ys d k lt) (all k d (omega (arith, length-append xs ys)))
-
-pub All-right : {X : Type 0} (P : X → Type 0) (xs ys : List X) → All P (xs ++ ys) → All P ys
-All-right P xs ys all k d lt = subst P (get_or-append-add xs ys k d) (all (length xs + k) d (omega (arith, length-append xs ys)))
-
-map_agree : {X Y : Type 0} (f g : X → Y) (xs : List X) → All (λ x. f x ≡ g x) xs → map f xs ≡ map g xs
-map_agree f g [] all = refl
-map_agree f g (x ∷ xs) all =
-    let here = All-head (λ x. f x ≡ g x) x xs all in
-    let rest = map_agree f g xs (All-tail (λ x. f x ≡ g x) x xs all) in
-    cc
 
 set_same : (set made : HeadSet) → set.heads ≡ made.heads → set.groups ≡ made.groups → set ≡ made
 unfolding set_made

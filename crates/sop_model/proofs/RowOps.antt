@@ -21,6 +21,7 @@ use Rattle.sop_model.proofs.RowLists.{length-changed_at, All-changed_at}
 use Rattle.sop_model.proofs.ClassRows.{HasShapeOf, HasShapeOf-with_rows, HasShapeOf-with_class, heads_of-with_rows, heads_of-with_class, heads_of-with_class_other, rows_of-with_rows, rows_of-with_class, each_class, count_of-shape}
 use Rattle.sop_model.proofs.HeadLemmas.{IsNamed-last_head, IsNamed-last_group, IsNamed-without_head, begins-append, begins-remove}
 use Rattle.sop_model.proofs.RowSound.{kind_of-default_of, IsRowOf-with_value, IsRowOf-with_flag, IsRowOf-last_value, IsRowOf-last_flag, IsRowOf-without_value, length-rows_held, All-rows_held, All-map_rows, SuitsClass, IsSound-with_class, IsGood-shape}
+use Rattle.sop_model.proofs.LimitsLemmas.{IsWithin-from, within_points, within_prims, within_vertices, within_heads, within_groups}
 
 -- A CLASS AND ITS ROWS
 
@@ -42,28 +43,28 @@ IsSound-with_rows g class rows sound all many =
 
 -- a geometry of the same shape is within the limits where its heads and groups are
 pub IsWithin-shape : (g h : Geo) → HasShapeOf g h → IsWithin g → ((class : Class) → length (heads_of h class).heads ≤ most_heads) → ((class : Class) → length (heads_of h class).groups ≤ most_groups) → IsWithin h
-IsWithin-shape g h shape within heads groups = record {
-  points = let a = within.points in let b = shape.points in omega arith;
-  prims = let a = within.prims in let b = count_of-shape g h shape Prim in let c = length-map h.prims (λ p. p.row) in let d = length-map g.prims (λ p. p.row) in omega arith;
-  vertices = let a = within.vertices in let b = count_of-shape g h shape Vertex in let c = length-map (corners_of h.prims) (λ c. c.row) in let d = length-map (corners_of g.prims) (λ c. c.row) in omega arith;
-  heads = heads;
-  groups = groups;
-}
+IsWithin-shape g h shape within heads groups =
+    IsWithin-from h
+    (let a = (within_points within) in let b = shape.points in omega arith)
+    (let a = (within_prims within) in let b = count_of-shape g h shape Prim in let c = length-map h.prims (λ p. p.row) in let d = length-map g.prims (λ p. p.row) in omega arith)
+    (let a = (within_vertices within) in let b = count_of-shape g h shape Vertex in let c = length-map (corners_of h.prims) (λ c. c.row) in let d = length-map (corners_of g.prims) (λ c. c.row) in omega arith)
+    heads
+    groups
 
 pub IsWithin-with_rows : (g : Geo) (class : Class) (rows : List Row) → length rows ≡ count_of g class → IsWithin g → IsWithin (with_rows g class rows)
 IsWithin-with_rows g class rows many within =
     IsWithin-shape g (with_rows g class rows) (HasShapeOf-with_rows g class rows many) within
-    (λ other. subst (λ (set : HeadSet). length set.heads ≤ most_heads) (sym (heads_of-with_rows g class rows other)) (within.heads other))
-    (λ other. subst (λ (set : HeadSet). length set.groups ≤ most_groups) (sym (heads_of-with_rows g class rows other)) (within.groups other))
+    (λ other. subst (λ (set : HeadSet). length set.heads ≤ most_heads) (sym (heads_of-with_rows g class rows other)) (within_heads within other))
+    (λ other. subst (λ (set : HeadSet). length set.groups ≤ most_groups) (sym (heads_of-with_rows g class rows other)) (within_groups within other))
 
 pub IsWithin-with_class : (g : Geo) (class : Class) (set : HeadSet) (rows : List Row) → length rows ≡ count_of g class → length set.heads ≤ most_heads → length set.groups ≤ most_groups → IsWithin g → IsWithin (with_class g class set rows)
 IsWithin-with_class g class set rows many few few_groups within =
     let made = with_class g class set rows in
     IsWithin-shape g made (HasShapeOf-with_class g class set rows many) within
     (each_class (λ c. length (heads_of made c).heads ≤ most_heads) class (subst (λ (s : HeadSet). length s.heads ≤ most_heads) (sym (heads_of-with_class g class set rows)) few)
-    (λ other ne. subst (λ (s : HeadSet). length s.heads ≤ most_heads) (sym (heads_of-with_class_other g class set rows other ne)) (within.heads other)))
+    (λ other ne. subst (λ (s : HeadSet). length s.heads ≤ most_heads) (sym (heads_of-with_class_other g class set rows other ne)) (within_heads within other)))
     (each_class (λ c. length (heads_of made c).groups ≤ most_groups) class (subst (λ (s : HeadSet). length s.groups ≤ most_groups) (sym (heads_of-with_class g class set rows)) few_groups)
-    (λ other ne. subst (λ (s : HeadSet). length s.groups ≤ most_groups) (sym (heads_of-with_class_other g class set rows other ne)) (within.groups other)))
+    (λ other ne. subst (λ (s : HeadSet). length s.groups ≤ most_groups) (sym (heads_of-with_class_other g class set rows other ne)) (within_groups within other)))
 
 -- A VALUE SET
 
@@ -181,12 +182,12 @@ module _ (g : Geo) (class : Class) (head : Head) where
   pub IsWithin-attr_added : IsWithin g → length (heads_of g class).heads < most_heads → IsWithin (attr_added g class head)
   IsWithin-attr_added within few =
       IsWithin-with_class g class (with_last_head (heads_of g class) head) (map (with_last_value (default_of head.kind)) (rows_of g class)) added_many
-      (let a = length-append (heads_of g class).heads (head ∷ []) in omega arith) (within.groups class) within
+      (let a = length-append (heads_of g class).heads (head ∷ []) in omega arith) (within_groups within class) within
 
   -- and no further
   pub few-attr_added : IsWithin (attr_added g class head) → length (heads_of g class).heads < most_heads
   few-attr_added within =
-      let a = within.heads class in let b = ap (λ (set : HeadSet). length set.heads) heads_of-attr_added in
+      let a = within_heads within class in let b = ap (λ (set : HeadSet). length set.heads) heads_of-attr_added in
       let c = length-append (heads_of g class).heads (head ∷ []) in omega arith
 
 -- A HEAD DELETED
@@ -229,7 +230,7 @@ module _ (g : Geo) (class : Class) (head : ℕ) where
   pub IsWithin-attr_deleted : IsWithin g → IsWithin (attr_deleted g class head)
   IsWithin-attr_deleted within =
       IsWithin-with_class g class (without_head (heads_of g class) head) (map (without_value head) (rows_of g class)) deleted_many
-      (let a = within.heads class in let b = length_remove_le (heads_of g class).heads head in omega arith) (within.groups class) within
+      (let a = within_heads within class in let b = length_remove_le (heads_of g class).heads head in omega arith) (within_groups within class) within
 
 -- A GROUP ADDED
 
@@ -265,10 +266,10 @@ module _ (g : Geo) (class : Class) (name : List ℕ) where
   pub IsWithin-group_added : IsWithin g → length (heads_of g class).groups < most_groups → IsWithin (group_added g class name)
   IsWithin-group_added within few =
       IsWithin-with_class g class (with_last_group (heads_of g class) name) (map (with_last_flag false) (rows_of g class)) grouped_many
-      (within.heads class) (let a = length-append (heads_of g class).groups (name ∷ []) in omega arith) within
+      (within_heads within class) (let a = length-append (heads_of g class).groups (name ∷ []) in omega arith) within
 
   -- and no further
   pub few-group_added : IsWithin (group_added g class name) → length (heads_of g class).groups < most_groups
   few-group_added within =
-      let a = within.groups class in let b = ap (λ (set : HeadSet). length set.groups) heads_of-group_added in
+      let a = within_groups within class in let b = ap (λ (set : HeadSet). length set.groups) heads_of-group_added in
       let c = length-append (heads_of g class).groups (name ∷ []) in omega arith

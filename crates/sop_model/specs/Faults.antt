@@ -1,5 +1,7 @@
 -- What a fault of a cook prints as: its name, then a blank and its number or node, where it has one.
-use Rattle.std.specs.Prelude.{ℕ, List, ◌∷◌, ◌++◌, codes, decimal}
+use Rattle.std.specs.Prelude.{ℕ, ◌==◌, Bool, true, not, List, ◌∷◌, ◌++◌, codes, decimal}
+use Rattle.std.specs.List.{list_all}
+use Rattle.sop_model.specs.Names.{is_name}
 use Rattle.sop_model.specs.declared.fault.Fault.{Fault}
 use Rattle.sop_model.specs.declared.fault.Fault.TheVariants as fault
 
@@ -33,3 +35,15 @@ fault_text fault.BadBlock = codes "BadBlock"
 fault_text (fault.NotCompilable node) = with_node (codes "NotCompilable") node
 fault_text (fault.Leaks node) = with_node (codes "Leaks") node
 fault_text fault.NotYet = codes "NotYet"
+
+-- the node that a fault names has a name, where it names one
+abbrev pub has_named_node : Fault → Bool
+has_named_node (fault.NotCompilable node) = is_name node
+has_named_node (fault.Leaks node) = is_name node
+has_named_node _ = true
+
+abbrev pub line_feed : ℕ
+line_feed = 10
+
+abbrev pub is_one_line : List ℕ → Bool
+is_one_line text = list_all (λ b. not (b == line_feed)) text

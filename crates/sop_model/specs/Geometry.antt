@@ -3,7 +3,7 @@
 -- A geometry has one detail element, points, and primitives with their vertices. Each class has heads (attributes: a name and a kind) and
 -- groups, each element a value for each head and a flag for each group. The first point head is the vector `P`. The detail has no group.
 -- Names of heads are distinct within their class, and so are names of groups.
-use Rattle.std.specs.Prelude.{◌≡◌, ℕ, ◌+◌, ◌<◌, ◌≤◌, nat_le, Bool, true, false, ◌&&◌, IsTrue, List, [], ◌∷◌, length, map, sum_by, All, Option, slice_get, codes}
+use Rattle.std.specs.Prelude.{⊤, ◌≡◌, ℕ, ◌+◌, ◌<◌, ◌≤◌, nat_le, Bool, true, false, ◌&&◌, IsTrue, List, [], ◌∷◌, ◌++◌, length, map, sum_by, All, Option, slice_get, codes}
 use Rattle.std.specs.List.{list_all}
 use Rattle.std.specs.Option.{option_and_then}
 use Rattle.sop_model.specs.declared.class.Class.{Class}
@@ -14,7 +14,7 @@ use Rattle.sop_model.specs.declared.geo.Head.{Head}
 use Rattle.sop_model.specs.declared.geo.HeadSet.{HeadSet}
 use Rattle.sop_model.specs.declared.value.Kind.TheVariants as kind
 use Rattle.sop_model.specs.declared.value.Value.{Value}
-use Rattle.sop_model.specs.Values.{kind_of, weight_of}
+use Rattle.sop_model.specs.Values.{kind_of, weight_of, is_value_within}
 use Rattle.sop_model.specs.Vertices.{size_of, corners_of}
 use Rattle.sop_model.specs.Names.{is_name, are_distinct}
 use Rattle.sop_model.specs.Limits.{most_points, most_prims, most_vertices, most_heads, most_groups, most_weight}
@@ -91,13 +91,35 @@ pub record IsGood (g : Geo) : Type 0 where
   pub sound : IsSound g
   pub corners : All (λ p. 0 < size_of p) g.prims
 
+-- an amount and the most that it may be
+pub record Bound : Type 0 where
+  pub amount : ℕ
+  pub most : ℕ
+
+abbrev pub at_most : ℕ → ℕ → Bound
+at_most amount most = record { amount = amount; most = most }
+
+-- whether each amount is at most what it may be, as a test and as a fact
+abbrev pub are_kept : List Bound → Bool
+are_kept [] = true
+are_kept (b ∷ bounds) = nat_le b.amount b.most && are_kept bounds
+
+abbrev pub AreKept : List Bound → Type 0
+AreKept [] = ⊤
+AreKept (b ∷ bounds) = (b.amount ≤ b.most) × AreKept bounds
+
+abbrev pub set_bounds : HeadSet → List Bound
+set_bounds set = at_most (length set.heads) most_heads ∷ at_most (length set.groups) most_groups ∷ []
+
+-- the limits of elements, heads and groups
+abbrev pub count_bounds : Geo → List Bound
+count_bounds g =
+    at_most (length g.points) most_points ∷ at_most (length g.prims) most_prims ∷ at_most (length (corners_of g.prims)) most_vertices ∷ []
+    ++ set_bounds g.detail ++ set_bounds g.prim ++ set_bounds g.point ++ set_bounds g.vertex
+
 -- at most so many elements, heads and groups
 pub record IsWithin (g : Geo) : Type 0 where
-  pub points : length g.points ≤ most_points
-  pub prims : length g.prims ≤ most_prims
-  pub vertices : length (corners_of g.prims) ≤ most_vertices
-  pub heads : (class : Class) → length (heads_of g class).heads ≤ most_heads
-  pub groups : (class : Class) → length (heads_of g class).groups ≤ most_groups
+  pub kept : AreKept (count_bounds g)
 
 abbrev pub row_weight : Row → ℕ
 row_weight row = sum_by weight_of row.values
@@ -106,19 +128,19 @@ row_weight row = sum_by weight_of row.values
 abbrev pub geo_weight : Geo → ℕ
 geo_weight g = sum_by row_weight (rows_of g Detail) + sum_by row_weight (rows_of g Prim) + sum_by row_weight (rows_of g Point) + sum_by row_weight (rows_of g Vertex)
 
--- within every limit of a geometry
-pub record Fits (g : Geo) : Type 0 where
-  pub within : IsWithin g
-  pub weight : geo_weight g ≤ most_weight
+abbrev pub weight_bound : Geo → List Bound
+weight_bound g = at_most (geo_weight g) most_weight ∷ []
 
--- whether the heads and groups of a class are within their limits
-abbrev pub class_fits : HeadSet → Bool
-class_fits set = nat_le (length set.heads) most_heads && nat_le (length set.groups) most_groups
+-- every limit of a geometry
+abbrev pub bounds_of : Geo → List Bound
+bounds_of g = count_bounds g ++ weight_bound g
 
--- whether a geometry is within every limit, as `Fits` says it
+-- whether a geometry is within every limit, as a test and as a fact
 abbrev pub fits : Geo → Bool
-fits g = nat_le (length g.points) most_points && nat_le (length g.prims) most_prims && nat_le (length (corners_of g.prims)) most_vertices
-    && class_fits g.detail && class_fits g.prim && class_fits g.point && class_fits g.vertex && nat_le (geo_weight g) most_weight
+fits g = are_kept (bounds_of g)
+
+pub record Fits (g : Geo) : Type 0 where
+  pub kept : AreKept (bounds_of g)
 
 -- the point head `P` alone, and no group
 pub record HasOnlyPosition (g : Geo) : Type 0 where
@@ -126,6 +148,20 @@ pub record HasOnlyPosition (g : Geo) : Type 0 where
   pub prim : g.prim ≡ no_heads
   pub point : g.point ≡ only_position
   pub vertex : g.vertex ≡ no_heads
+
+-- strings and lists are within their limits, in a row and in every row of a class
+abbrev pub is_row_within : Row → Bool
+is_row_within row = list_all is_value_within row.values
+
+abbrev pub are_rows_within : List Row → Bool
+are_rows_within rows = list_all is_row_within rows
+
+-- the same in a whole geometry, as a test and as a fact
+abbrev pub are_values_within : Geo → Bool
+are_values_within g = is_row_within g.detail_row && are_rows_within (rows_of g Prim) && are_rows_within g.points && are_rows_within (rows_of g Vertex)
+
+pub record AreValuesWithin (g : Geo) : Type 0 where
+  pub within : IsTrue (are_values_within g)
 
 -- what a view may be read of
 pub record IsReadable (g : Geo) : Type 0 where

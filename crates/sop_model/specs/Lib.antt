@@ -2,10 +2,13 @@ pub mod Limits
 pub mod Names
 pub mod Values
 pub mod Vertices
+pub mod Shortening
 pub mod Geometry
+pub mod Places
 pub mod Merge
 pub mod Plain
 pub mod Faults
 pub mod Rows
 pub mod Appending
 pub mod Sweep
+pub mod Samples

@@ -13,9 +13,17 @@ use Rattle.sop_model.specs.declared.value.Value.TheVariants as value
 use Rattle.sop_model.specs.Vertices.{corners_of}
 use Rattle.sop_model.specs.Geometry.{HasOnlyPosition, empty_row, empty_geo}
 
+-- the geometry of these points and primitives, with the attribute `P` alone
+abbrev pub plain_geo : List Row → List Primitive → Geo
+plain_geo points prims = record empty_geo { points = points; prims = prims }
+
 -- the row of a point that has a position and nothing else
 abbrev pub point_row : Vec3 → Row
 point_row v = record { values = value.Vector v ∷ []; flags = [] }
+
+-- points alone, at these places
+abbrev pub geo_of_points : List Vec3 → Geo
+geo_of_points places = plain_geo (map point_row places) []
 
 abbrev pub IsPointRow : Row → Type 0
 IsPointRow row = (v : Vec3) × (row ≡ point_row v)
@@ -46,4 +54,4 @@ plain_append a b = record a { points = a.points ++ b.points; prims = a.prims ++ 
 
 -- plain geometries one after the other
 abbrev pub plain_merged : List Geo → Geo
-plain_merged gs = record empty_geo { points = flat_map (λ g. g.points) gs; prims = shifted_prims 0 gs }
+plain_merged gs = plain_geo (flat_map (λ g. g.points) gs) (shifted_prims 0 gs)

@@ -18,7 +18,7 @@ use Rattle.sop_model.specs.declared.value.Value.{Value}
 use Rattle.sop_model.specs.declared.value.Value.TheVariants as value
 use Rattle.sop_model.specs.Names.{is_name}
 use Rattle.sop_model.specs.Values.{kind_of, default_of}
-use Rattle.sop_model.specs.Vertices.{size_of}
+use Rattle.sop_model.specs.Vertices.{size_of, longer_from}
 use Rattle.sop_model.specs.Geometry.{empty_row, heads_of, rows_of, count_of}
 
 -- ROWS
@@ -178,8 +178,7 @@ points_for prim adds = map (λ a. a.1) (filter (λ a. a.0 == prim) adds)
 
 -- the primitives, numbered from n on, each with its new vertices at its end
 abbrev pub corners_added : Geo → List (ℕ × ℕ) → ℕ → List Primitive → List Primitive
-corners_added g adds n [] = []
-corners_added g adds n (p ∷ prims) = record p { corners = p.corners ++ map (new_corner g) (points_for n adds) } ∷ corners_added g adds (suc n) prims
+corners_added g adds n prims = longer_from (λ prim. map (new_corner g) (points_for prim adds)) n prims
 
 -- for each primitive and point of the list in turn a vertex on that point at the end of that primitive
 abbrev pub vertices_added : Geo → List (ℕ × ℕ) → Geo

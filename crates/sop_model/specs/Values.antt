@@ -1,9 +1,13 @@
--- Values: their kinds and defaults, how a value is put where another kind is wanted, and what a value weighs.
+-- Values: their kinds and defaults, how a value is put where another kind is wanted, what it weighs, and its limits.
 --
 -- A value of the wanted kind stays. A whole number is exact as a real, where it is in range; a real is cut toward zero to a whole number.
 -- No other value goes where another kind is wanted.
 -- A whole number and a real weigh 1, a vector 3, a string 1 and one more for each whole eighth of its bytes, a list 1 and its items' weights.
-use Rattle.std.specs.Prelude.{ℕ, ◌+◌, ◌*◌, ◌/◌, List, [], length, sum_by, ℤ, pos, int_div, ◌*ℤ◌, unsigned_abs, nat_le, if◌then◌else◌, Option, None, Some}
+use Rattle.std.specs.Prelude.{ℕ, ◌+◌, ◌*◌, ◌/◌, nat_le, Bool, true, false, ◌&&◌, List, [], length, sum_by, pos, Option, None, Some}
+use Rattle.std.specs.List.{list_all}
+use Rattle.std.specs.Option.{option_map}
+use Rattle.std.specs.Result.{result_ok}
+use Rattle.sop_fixed.specs.Arithmetic.{units_of, real_of_int}
 use Rattle.sop_fixed.specs.declared.vec3.Vec3.{Vec3}
 use Rattle.sop_model.specs.declared.value.Kind.{Kind}
 use Rattle.sop_model.specs.declared.value.Kind.TheVariants as kind
@@ -11,6 +15,7 @@ use Rattle.sop_model.specs.declared.value.Value.{Value}
 use Rattle.sop_model.specs.declared.value.Value.TheVariants as value
 use Rattle.sop_model.specs.declared.value.ValueRef.{ValueRef}
 use Rattle.sop_model.specs.declared.value.ValueRef.TheVariants as seen
+use Rattle.sop_model.specs.Limits.{most_string_bytes, most_list_items}
 
 abbrev pub kind_of : Value → Kind
 kind_of (value.Int n) = kind.Int
@@ -50,54 +55,26 @@ default_of kind.Reals = value.Reals []
 default_of kind.Vectors = value.Vectors []
 default_of kind.Strs = value.Strs []
 
--- a whole number as millionths, where these are in range
-abbrev pub real_of_int : ℤ → Option Value
-real_of_int n = if nat_le (unsigned_abs n) 1000000000 then Some (value.Real (n *ℤ pos 1000000)) else None
-
-abbrev pub as_int : Value → Option Value
-as_int (value.Int n) = Some (value.Int n)
-as_int (value.Real x) = Some (value.Int (int_div x (pos 1000000)))
-as_int _ = None
-
-abbrev pub as_real : Value → Option Value
-as_real (value.Int n) = real_of_int n
-as_real (value.Real x) = Some (value.Real x)
-as_real _ = None
-
-abbrev pub as_vector : Value → Option Value
-as_vector (value.Vector v) = Some (value.Vector v)
-as_vector _ = None
-
-abbrev pub as_str : Value → Option Value
-as_str (value.Str text) = Some (value.Str text)
-as_str _ = None
-
-abbrev pub as_ints : Value → Option Value
-as_ints (value.Ints list) = Some (value.Ints list)
-as_ints _ = None
-
-abbrev pub as_reals : Value → Option Value
-as_reals (value.Reals list) = Some (value.Reals list)
-as_reals _ = None
-
-abbrev pub as_vectors : Value → Option Value
-as_vectors (value.Vectors list) = Some (value.Vectors list)
-as_vectors _ = None
-
-abbrev pub as_strs : Value → Option Value
-as_strs (value.Strs list) = Some (value.Strs list)
-as_strs _ = None
-
 -- the value where this kind is wanted, if it goes there
 abbrev pub put : Kind → Value → Option Value
-put kind.Int v = as_int v
-put kind.Real v = as_real v
-put kind.Vector v = as_vector v
-put kind.Str v = as_str v
-put kind.Ints v = as_ints v
-put kind.Reals v = as_reals v
-put kind.Vectors v = as_vectors v
-put kind.Strs v = as_strs v
+put kind.Int (value.Int n) = Some (value.Int n)
+put kind.Int (value.Real x) = Some (value.Int (units_of x))
+put kind.Real (value.Real x) = Some (value.Real x)
+put kind.Real (value.Int n) = option_map (λ x. value.Real x) (result_ok (real_of_int n))
+put kind.Vector (value.Vector v) = Some (value.Vector v)
+put kind.Str (value.Str text) = Some (value.Str text)
+put kind.Ints (value.Ints list) = Some (value.Ints list)
+put kind.Reals (value.Reals list) = Some (value.Reals list)
+put kind.Vectors (value.Vectors list) = Some (value.Vectors list)
+put kind.Strs (value.Strs list) = Some (value.Strs list)
+put _ _ = None
+
+-- a copy of a value of such a kind takes no memory
+abbrev pub is_plain : Kind → Bool
+is_plain kind.Int = true
+is_plain kind.Real = true
+is_plain kind.Vector = true
+is_plain _ = false
 
 abbrev pub text_weight : List ℕ → ℕ
 text_weight text = 1 + length text / 8
@@ -111,3 +88,20 @@ weight_of (value.Ints list) = 1 + length list
 weight_of (value.Reals list) = 1 + length list
 weight_of (value.Vectors list) = 1 + 3 * length list
 weight_of (value.Strs list) = 1 + sum_by text_weight list
+
+abbrev pub is_text_within : List ℕ → Bool
+is_text_within text = nat_le (length text) most_string_bytes
+
+abbrev pub is_list_within : {A : Type 0} → List A → Bool
+is_list_within list = nat_le (length list) most_list_items
+
+-- strings, also those in a list, and lists are within their limits
+abbrev pub is_value_within : Value → Bool
+is_value_within (value.Int n) = true
+is_value_within (value.Real x) = true
+is_value_within (value.Vector v) = true
+is_value_within (value.Str text) = is_text_within text
+is_value_within (value.Ints list) = is_list_within list
+is_value_within (value.Reals list) = is_list_within list
+is_value_within (value.Vectors list) = is_list_within list
+is_value_within (value.Strs list) = is_list_within list && list_all is_text_within list

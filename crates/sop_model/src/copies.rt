@@ -32,7 +32,7 @@ pub fn copy_items<T: Copied>(items: &Items<T>, alloc: Global) -> Result<Items<T>
 }
 
 /// Copies of plain items, in order.
-fn copy_plain<T: Copy>(items: &Items<T>, alloc: Global) -> Result<Items<T>, AllocError>
+pub(crate) fn copy_plain<T: Copy>(items: &Items<T>, alloc: Global) -> Result<Items<T>, AllocError>
     ensures { IfOk result (λ made. made ≡ items.now) }
 {
     Ok(Items::from_vec(Vec::from_slice(alloc, items.as_slice())?))
@@ -46,16 +46,7 @@ impl Copied for Text {
 
 impl Copied for Value {
     fn copy(&self, alloc: Global) -> Result<Value, AllocError> {
-        Ok(match self {
-            Value::Int(n) => Value::Int(*n),
-            Value::Real(x) => Value::Real(*x),
-            Value::Vector(v) => Value::Vector(*v),
-            Value::Str(text) => Value::Str(text.copy(alloc)?),
-            Value::Ints(list) => Value::Ints(copy_plain(list, alloc)?),
-            Value::Reals(list) => Value::Reals(copy_plain(list, alloc)?),
-            Value::Vectors(list) => Value::Vectors(copy_plain(list, alloc)?),
-            Value::Strs(list) => Value::Strs(copy_items(list, alloc)?),
-        })
+        self.as_ref().to_value(alloc)
     }
 }
 

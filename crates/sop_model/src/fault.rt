@@ -1,6 +1,6 @@
 // Why a node has no geometry.
-ghost use Rattle.std.specs.Prelude.{◌≡◌, ◌++◌, ◌∷◌, OnOk, decimal};
-ghost use Rattle.sop_model.specs.Faults.{fault_text, with_number, with_node};
+ghost use Rattle.std.specs.Prelude.{◌≡◌, ◌++◌, length, take, OnOk, OnErr, IsTrue};
+ghost use Rattle.sop_model.specs.Faults.{fault_text, has_named_node, is_one_line, with_number, with_node};
 
 use itoa::Buffer;
 use sop_outside::Text;
@@ -61,6 +61,7 @@ pub enum Fault {
 #[derive(Debug, Drop)]
 pub enum CookStop {
     Fault(Fault),
+    /// Want of memory.
     Memory,
 }
 
@@ -74,54 +75,73 @@ impl From<AllocError> for CookStop {
     }
 }
 
-/// Appends a name, a blank and a number.
-fn print_number(name: &str, number: u64, to: &mut Vec<u8>) -> Result<(), AllocError>
-    ensures { OnOk result (to.new.items ≡ to.old.items ++ with_number name.now number) }
+impl Fault {
+    /// Appends the text of the fault: its name, then a blank and its number or node, where it has one. After a refusal for want
+    /// of memory the bytes are as before. A text is one line where the node that the fault names has a name.
+    pub fn print(&self, to: &mut Vec<u8>) -> Result<(), AllocError>
+        ensures ok { OnOk result (to.new.items ≡ to.old.items ++ fault_text self.now) }
+        ensures err { OnErr result (to.new.items ≡ to.old.items) }
+        ensures one_line { IsTrue (has_named_node self.now) → IsTrue (is_one_line (fault_text self.now)) }
+    {
+        let start = to.len();
+        match self.append(to) {
+            Ok(()) => Ok(()),
+            Err(end) => {
+                to.truncate(start);
+                Err(end)
+            }
+        }
+    }
+
+    /// Appends the text of the fault, or for want of memory some bytes.
+    fn append(&self, to: &mut Vec<u8>) -> Result<(), AllocError>
+        ensures ok { OnOk result (to.new.items ≡ to.old.items ++ fault_text self.now) }
+        ensures kept { take (length to.old.items) to.new.items ≡ to.old.items }
+    {
+        match self {
+            Fault::NoInput(input) => append_number("NoInput", u64::from(*input), to),
+            Fault::NoFile => to.extend_from_slice(b"NoFile"),
+            Fault::Number(line) => append_number("Number", *line, to),
+            Fault::Index(line) => append_number("Index", *line, to),
+            Fault::Limit => to.extend_from_slice(b"Limit"),
+            Fault::BadParm => to.extend_from_slice(b"BadParm"),
+            Fault::NoAttr => to.extend_from_slice(b"NoAttr"),
+            Fault::BadGroup(word) => append_number("BadGroup", u64::from(*word), to),
+            Fault::NoGroup(word) => append_number("NoGroup", u64::from(*word), to),
+            Fault::Lex(line) => append_number("Lex", *line, to),
+            Fault::Syntax(line) => append_number("Syntax", *line, to),
+            Fault::Types(line) => append_number("Types", *line, to),
+            Fault::TooLong => to.extend_from_slice(b"TooLong"),
+            Fault::Range(element) => append_number("Range", u64::from(*element), to),
+            Fault::DivZero(element) => append_number("DivZero", u64::from(*element), to),
+            Fault::Turns(element) => append_number("Turns", u64::from(*element), to),
+            Fault::RunLimit(element) => append_number("RunLimit", u64::from(*element), to),
+            Fault::EditLimit(element) => append_number("EditLimit", u64::from(*element), to),
+            Fault::NoLoop => to.extend_from_slice(b"NoLoop"),
+            Fault::BadBlock => to.extend_from_slice(b"BadBlock"),
+            Fault::NotCompilable(node) => append_node("NotCompilable", node, to),
+            Fault::Leaks(node) => append_node("Leaks", node, to),
+            Fault::NotYet => to.extend_from_slice(b"NotYet"),
+        }
+    }
+}
+
+/// Appends a name, a blank and a number, or for want of memory some bytes.
+fn append_number(name: &str, number: u64, to: &mut Vec<u8>) -> Result<(), AllocError>
+    ensures ok { OnOk result (to.new.items ≡ to.old.items ++ with_number name.now number) }
+    ensures kept { take (length to.old.items) to.new.items ≡ to.old.items }
 {
     to.extend_from_slice(name.as_bytes())?;
     to.push(b' ')?;
     to.extend_from_slice(Buffer::new().format(number).as_bytes())
 }
 
-/// Appends a name, a blank and the name of a node.
-fn print_node(name: &str, node: &Text, to: &mut Vec<u8>) -> Result<(), AllocError>
-    ensures { OnOk result (to.new.items ≡ to.old.items ++ with_node name.now node.now) }
+/// Appends a name, a blank and the name of a node, or for want of memory some bytes.
+fn append_node(name: &str, node: &Text, to: &mut Vec<u8>) -> Result<(), AllocError>
+    ensures ok { OnOk result (to.new.items ≡ to.old.items ++ with_node name.now node.now) }
+    ensures kept { take (length to.old.items) to.new.items ≡ to.old.items }
 {
     to.extend_from_slice(name.as_bytes())?;
     to.push(b' ')?;
     to.extend_from_slice(node.as_str().as_bytes())
-}
-
-impl Fault {
-    /// Appends the text of the fault: its name, then a blank and its number or node, where it has one. After a refusal for want of memory
-    /// the bytes are some that begin as before.
-    pub fn print(&self, to: &mut Vec<u8>) -> Result<(), AllocError>
-        ensures { OnOk result (to.new.items ≡ to.old.items ++ fault_text self.now) }
-    {
-        match self {
-            Fault::NoInput(input) => print_number("NoInput", u64::from(*input), to),
-            Fault::NoFile => to.extend_from_slice(b"NoFile"),
-            Fault::Number(line) => print_number("Number", *line, to),
-            Fault::Index(line) => print_number("Index", *line, to),
-            Fault::Limit => to.extend_from_slice(b"Limit"),
-            Fault::BadParm => to.extend_from_slice(b"BadParm"),
-            Fault::NoAttr => to.extend_from_slice(b"NoAttr"),
-            Fault::BadGroup(word) => print_number("BadGroup", u64::from(*word), to),
-            Fault::NoGroup(word) => print_number("NoGroup", u64::from(*word), to),
-            Fault::Lex(line) => print_number("Lex", *line, to),
-            Fault::Syntax(line) => print_number("Syntax", *line, to),
-            Fault::Types(line) => print_number("Types", *line, to),
-            Fault::TooLong => to.extend_from_slice(b"TooLong"),
-            Fault::Range(element) => print_number("Range", u64::from(*element), to),
-            Fault::DivZero(element) => print_number("DivZero", u64::from(*element), to),
-            Fault::Turns(element) => print_number("Turns", u64::from(*element), to),
-            Fault::RunLimit(element) => print_number("RunLimit", u64::from(*element), to),
-            Fault::EditLimit(element) => print_number("EditLimit", u64::from(*element), to),
-            Fault::NoLoop => to.extend_from_slice(b"NoLoop"),
-            Fault::BadBlock => to.extend_from_slice(b"BadBlock"),
-            Fault::NotCompilable(node) => print_node("NotCompilable", node, to),
-            Fault::Leaks(node) => print_node("Leaks", node, to),
-            Fault::NotYet => to.extend_from_slice(b"NotYet"),
-        }
-    }
 }

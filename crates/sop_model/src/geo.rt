@@ -7,14 +7,19 @@ use crate::value::{Kind, Value};
 use sop_outside::{Items, Text, TextList};
 use std::alloc::{AllocError, Global};
 
+/// The attributes of a class.
 pub type HeadList = Items<Head>;
 
+/// The values of an element, one for each attribute of its class.
 pub type ValueList = Items<Value>;
 
+/// Whether an element is a member, for each group of its class.
 pub type FlagList = Items<bool>;
 
+/// The vertices of a primitive.
 pub type CornerList = Items<Corner>;
 
+/// The rows of points.
 pub type RowList = Items<Row>;
 
 /// The field's short name for a primitive.
@@ -112,14 +117,6 @@ impl Geo {
     pub fn empty(alloc: Global) -> Result<Geo, AllocError>
         ensures { IfOk result (λ geo. geo ≡ empty_geo) }
     {
-        Ok(Geo {
-            detail: HeadSet::empty(alloc),
-            prim: HeadSet::empty(alloc),
-            point: HeadSet::position(alloc)?,
-            vertex: HeadSet::empty(alloc),
-            points: RowList::new(alloc),
-            prims: PrimList::new(alloc),
-            detail_row: Row::empty(alloc),
-        })
+        Geo::plain(alloc, RowList::new(alloc), PrimList::new(alloc))
     }
 }

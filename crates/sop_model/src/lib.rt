@@ -5,10 +5,13 @@ pub mod class;
 pub mod copies;
 pub mod fault;
 pub mod geo;
+mod geo_view;
 pub mod limits;
-pub mod name;
+mod name;
+mod places;
+mod plain;
 pub mod primitives;
-pub mod rows;
+pub mod samples;
 pub mod value;
 pub mod view;
 
@@ -20,6 +23,7 @@ pub use geo::{
     ValueList,
 };
 pub use name::{continues_name, is_name, starts_name};
+pub use places::place_of;
 pub use primitives::PrimList;
 pub use value::{IntList, Kind, RealList, Value, ValueRef, VectorList};
 pub use view::{GeoView, Inputs};
