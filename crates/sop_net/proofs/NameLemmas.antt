@@ -1,11 +1,11 @@
 -- Places of names, in a list of nodes and in the list of their names.
-use Rattle.std.proofs.Common.{◌≡◌, ◌∙◌, sym, ap, refl, ℕ, ◌+◌, ◌<◌, List, [], ◌∷◌, true, false, not, cond, length, get_or, eq-eqb}
-use Rattle.std.specs.Prelude.{None, Some, map, position, bytes_eq, nat_lt, option_map, is_some, ◌==◌}
+use Rattle.std.proofs.Common.{◌≡◌, ◌∙◌, sym, ap, refl, ℕ, ◌+◌, ◌<◌, List, [], ◌∷◌, false, not, cond, length, get_or}
+use Rattle.std.specs.Prelude.{None, Some, map, position, bytes_eq, nat_lt, option_map}
 use Rattle.std.specs.List.{position_or_len, list_any}
 use Rattle.std.specs.Cmp.Lexicographic.{nat_list_eq_equiv}
 use Rattle.std.proofs.lemmas.Option.{slice_get_read}
 use Rattle.sop_net.specs.declared.node.Node.{Node}
-use Rattle.sop_net.specs.Network.{node_of, IsLive, node_named, place_named, number_named}
+use Rattle.sop_net.specs.Network.{place_named, number_named}
 use Rattle.sop_net.proofs.Searches.{find-position, find-no_position, past-all, none-passes, first-map, length-map, any-map}
 
 first-name : (nodes : List Node) (name : List ℕ) → position_or_len (bytes_eq name) (map (λ n. n.name) nodes) ≡ position_or_len (λ n. bytes_eq n.name name) nodes
@@ -35,13 +35,3 @@ pub free-name : (nodes : List Node) (name : List ℕ) → place_named nodes name
 free-name nodes name e =
     sym (any-map (λ (n : Node). n.name) (λ t. bytes_eq t name) nodes)
     ∙ none-passes (λ n. bytes_eq n.name name) nodes (past-all (λ n. bytes_eq n.name name) nodes e)
-
--- the node under a name stands
-pub named-live : (nodes : List Node) (name : List ℕ) (x : ℕ) → number_named nodes name ≡ Some x → IsLive nodes x
-named-live [] name x e = absurd (cc)
-named-live (n ∷ nodes) name x e =
-    (elim (bytes_eq n.name name) as (λ b. option_map (λ (m : Node). m.number) (cond b (Some n) (node_named nodes name)) ≡ Some x → IsLive (n ∷ nodes) x) [
-      | true ↦ λ is. (let same : (n.number == x) ≡ true = eq-eqb n.number x (cc) in ap (λ b. is_some (cond b (Some n) (node_of nodes x))) same)
-      | false ↦ λ is. (let rest : IsLive nodes x = named-live nodes name x is in
-          elim (n.number == x) as (λ b. is_some (cond b (Some n) (node_of nodes x)) ≡ true) [ true ↦ refl | false ↦ rest ])
-    ]) e

@@ -198,7 +198,8 @@ impl Net {
 
     /// The node of this name. It takes no memory, as none of the reads does.
     pub fn find(&self, name: &str) -> Option<NodeId>
-        ensures { result ≡ number_named self.now.nodes name.now }
+        ensures node { result ≡ number_named self.now.nodes name.now }
+        ensures live { IfSome result (λ node. IsLive self.now.nodes node) }
     {
         match self.place_named(name) {
             Some(at) => Some(self.nodes[at].number),
@@ -314,7 +315,8 @@ impl Net {
     /// Node `i` in order of making, from 0.
     pub fn node(&self, i: u32) -> NodeId
         requires { i < length self.now.nodes }
-        ensures { option_map (λ n. n.number) (slice_get self.now.nodes i) ≡ Some result }
+        ensures node { option_map (λ n. n.number) (slice_get self.now.nodes i) ≡ Some result }
+        ensures live { IsLive self.now.nodes result }
     {
         self.nodes[i as usize].number
     }

@@ -178,6 +178,7 @@ fn replace(text: &mut Text, other: Option<Text>)
 }
 
 /// The inputs that a node uses, by rising number.
+#[derive(Clone, Copy)]
 pub struct Sockets<'a> {
     /// The number of the first.
     pub first: u32,
