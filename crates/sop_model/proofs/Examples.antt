@@ -1,4 +1,4 @@
--- Worked examples: what the definitions say of names, values, vertices and merges, by computation.
+-- Worked examples: what the definitions say of names, values, limits, faults, vertices and merges, by computation.
 use Rattle.std.specs.Prelude.{◌≡◌, refl, ℕ, pos, negsuc, true, false, List, [], ◌∷◌, None, Some, codes, replicate}
 use Rattle.sop_model.specs.declared.geo.Geo.{Geo}
 use Rattle.sop_model.specs.declared.geo.Head.{Head}
@@ -7,10 +7,13 @@ use Rattle.sop_model.specs.declared.geo.Corner.{Corner}
 use Rattle.sop_model.specs.declared.geo.Primitive.{Primitive}
 use Rattle.sop_model.specs.declared.value.Kind.TheVariants as kind
 use Rattle.sop_model.specs.declared.value.Value.TheVariants as value
-use Rattle.sop_model.specs.Values.{put, weight_of, zero_vector}
-use Rattle.sop_model.specs.Vertices.{first_vertex_in, prim_in}
+use Rattle.sop_model.specs.Values.{put, weight_of, is_value_within, zero_vector}
+use Rattle.sop_model.specs.Vertices.{first_vertex_in, prim_in, longer_prims}
 use Rattle.sop_model.specs.Names.{is_name}
-use Rattle.sop_model.specs.Geometry.{empty_row, no_heads, position_head, empty_geo, fits, geo_weight}
+use Rattle.sop_model.specs.Geometry.{empty_row, no_heads, position_head, empty_geo, at_most, are_kept, fits, geo_weight}
+use Rattle.sop_model.specs.Limits.{most_heads, most_groups}
+use Rattle.sop_model.specs.Faults.{fault_text, is_one_line}
+use Rattle.sop_model.specs.declared.fault.Fault.TheVariants as fault
 use Rattle.sop_model.specs.Merge.{merged}
 
 -- names
@@ -19,9 +22,6 @@ name_of_three = refl
 
 name_from_a_digit : is_name (codes "1a") ≡ false
 name_from_a_digit = refl
-
-name_of_nothing : is_name [] ≡ false
-name_of_nothing = refl
 
 name_with_a_space : is_name (codes "a b") ≡ false
 name_with_a_space = refl
@@ -45,14 +45,8 @@ int_beyond_reals = refl
 int_largest_real : put kind.Real (value.Int (negsuc 999999999)) ≡ Some (value.Real (negsuc 999999999999999))
 int_largest_real = refl
 
-text_as_int : put kind.Int (value.Str (codes "3")) ≡ None
-text_as_int = refl
-
 int_as_list : put kind.Ints (value.Int (pos 3)) ≡ None
 int_as_list = refl
-
-list_as_list : put kind.Ints (value.Ints (pos 3 ∷ [])) ≡ Some (value.Ints (pos 3 ∷ []))
-list_as_list = refl
 
 -- weights
 weight_of_7 : weight_of (value.Str (codes "seven b")) ≡ 1
@@ -67,6 +61,20 @@ weight_of_vectors = refl
 weight_of_texts : weight_of (value.Strs (codes "eight by" ∷ [] ∷ [])) ≡ 4
 weight_of_texts = refl
 
+-- limits of values
+text_of_4096 : is_value_within (value.Str (replicate 4096 97)) ≡ true
+text_of_4096 = refl
+
+text_of_4097 : is_value_within (value.Strs (codes "a" ∷ replicate 4097 97 ∷ [])) ≡ false
+text_of_4097 = refl
+
+-- lines
+fault_on_a_line : is_one_line (fault_text (fault.NotCompilable (codes "box1"))) ≡ true
+fault_on_a_line = refl
+
+fault_on_two : is_one_line (fault_text (fault.Leaks (codes "a\nb"))) ≡ false
+fault_on_two = refl
+
 -- a triangle on the points 0, 1 and 2, then a line on the points 2 and 0
 corner_at : ℕ → Corner
 corner_at point = record { point = point; row = empty_row }
@@ -80,10 +88,6 @@ line = record { closed = false; row = empty_row; corners = corner_at 2 ∷ corne
 shapes : List Primitive
 shapes = triangle ∷ line ∷ []
 
-first_of_triangle : first_vertex_in shapes 0 ≡ 0
-unfolding shapes triangle line
-first_of_triangle = refl
-
 first_of_line : first_vertex_in shapes 1 ≡ 3
 unfolding shapes triangle line
 first_of_line = refl
@@ -91,10 +95,6 @@ first_of_line = refl
 past_all : first_vertex_in shapes 2 ≡ 5
 unfolding shapes triangle line
 past_all = refl
-
-last_of_triangle : prim_in shapes 2 ≡ 0
-unfolding shapes triangle line
-last_of_triangle = refl
 
 in_line : prim_in shapes 3 ≡ 1
 unfolding shapes triangle line
@@ -104,12 +104,22 @@ in_none : prim_in shapes 5 ≡ 2
 unfolding shapes triangle line
 in_none = refl
 
+-- two vertices for the line and one for the triangle, in turn
+longer_shapes : longer_prims ((1, corner_at 5) ∷ (0, corner_at 6) ∷ (1, corner_at 7) ∷ []) shapes
+    ≡ record { closed = true; row = empty_row; corners = corner_at 0 ∷ corner_at 1 ∷ corner_at 2 ∷ corner_at 6 ∷ [] }
+    ∷ record { closed = false; row = empty_row; corners = corner_at 2 ∷ corner_at 0 ∷ corner_at 5 ∷ corner_at 7 ∷ [] } ∷ []
+unfolding shapes triangle line
+longer_shapes = refl
+
 -- merges
 merge_of_none : merged [] ≡ empty_geo
 merge_of_none = refl
 
 empty_fits : fits empty_geo ≡ true
 empty_fits = refl
+
+one_too_many : are_kept (at_most 64 most_heads ∷ at_most 257 most_groups ∷ []) ≡ false
+one_too_many = refl
 
 -- two geometries with a group `g` of points: the second has also the whole numbers `n` of points, and a detail value
 number_head : Head

@@ -46,7 +46,7 @@ impl PrimList {
     pub fn from_vec(alloc: Global, prims: Vec<Primitive>) -> Result<PrimList, AllocError>
         ensures { IfOk result (λ made. made ≡ prims.items) }
     {
-        let ends = ends(alloc, &prims)?;
+        let ends = counted_ends(alloc, &prims)?;
         Ok(PrimList { prims, ends })
     }
 
@@ -188,7 +188,7 @@ impl PrimList {
 }
 
 /// For each primitive the number of vertices up to its end; also refused where these are more than a number can say.
-fn ends(alloc: Global, prims: &[Primitive]) -> Result<Vec<u64>, AllocError>
+fn counted_ends(alloc: Global, prims: &[Primitive]) -> Result<Vec<u64>, AllocError>
     ensures { IfOk result (λ ends. ends.items ≡ ends_of 0 prims.now) }
 {
     let mut ends = Vec::with_capacity(alloc, prims.len())?;

@@ -1,7 +1,7 @@
 use Rattle.std.proofs.Common.{◌≡◌, ◌+◌, ◌++◌, ◌∷◌, [], ◌∙◌, sym, ap, take, arith}
 use Rattle.sop_model.specs.Vertices.{size_of, ends_of}
 use Rattle.sop_model.proofs.PrimitivesLemmas.{ends_of-more, first_vertex_in-more}
-use Rattle.sop_model.proofs.primitives.ends.Goals as goal
+use Rattle.sop_model.proofs.primitives.counted_ends.Goals as goal
 
 pub loop-prim-preserved : goal.loop-prim-preserved
 loop-prim-preserved c =

@@ -1,6 +1,6 @@
 use Rattle.std.proofs.Common.{◌≡◌, take}
 use Rattle.sop_model.specs.Vertices.{ends_of, first_vertex_in}
-use Rattle.sop_model.proofs.primitives.ends.Given as goal
+use Rattle.sop_model.proofs.primitives.counted_ends.Given as goal
 
 abbrev pub invariant-loop-prim : goal.invariant-loop-prim
 invariant-loop-prim l = record {
