@@ -10,7 +10,7 @@ pub mod OrderLemmas
 pub mod DefaultLemmas
 pub mod AddLemmas
 pub mod Searches
-pub mod EditLemmas
+pub mod StagedLemmas
 pub mod ChangeLemmas
 pub mod SetLemmas
 pub mod FlagLemmas

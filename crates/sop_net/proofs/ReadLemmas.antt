@@ -5,6 +5,7 @@ use Rattle.std.proofs.lemmas.List.Elements.{All-head, All-tail}
 use Rattle.sop_net.specs.declared.node.Node.{Node}
 use Rattle.sop_net.specs.declared.node_type.NodeType.{NodeType}
 use Rattle.sop_net.specs.declared.node_type.NodeType.TheVariants as type
+use Rattle.sop_net.specs.Limits.{most_inputs}
 use Rattle.sop_net.specs.NodeTable.{parms_of, inputs_of}
 use Rattle.sop_net.specs.Network.{node_of, parm_at, used_wires, wires_used_by, AreValues, IsNodeOf}
 
@@ -48,18 +49,18 @@ first_parm (t ∷ texts) text h = let same : text ≡ t = cc in same
 pub wires_used : (nodes : List Node) (x : ℕ) (n : Node) (node_type : NodeType) → node_of nodes x ≡ Some n → n.node_type ≡ node_type → used_wires (node_of nodes x) ≡ wires_used_by node_type n
 wires_used nodes x n node_type found is = ap used_wires found ∙ ap (λ k. wires_used_by k n) is
 
-few_inputs : (node_type : NodeType) → inputs_of node_type ≤ 32
+few_inputs : (node_type : NodeType) → inputs_of node_type ≤ most_inputs
 few_inputs type.File = omega arith
 few_inputs other = omega arith
 
-few_by : (node_type : NodeType) (n : Node) → length n.wires ≤ 32 → length (wires_used_by node_type n) ≤ 32
+few_by : (node_type : NodeType) (n : Node) → length n.wires ≤ most_inputs → length (wires_used_by node_type n) ≤ most_inputs
 few_by type.Switch n few = omega arith
 few_by other n few = few
 
--- no node uses more than 32 wires
-pub few_used : (nodes : List Node) (x : ℕ) → All IsNodeOf nodes → length (used_wires (node_of nodes x)) ≤ 32
+-- no node uses more wires than a node has
+pub few_used : (nodes : List Node) (x : ℕ) → All IsNodeOf nodes → length (used_wires (node_of nodes x)) ≤ most_inputs
 few_used nodes x all = by (node_of nodes x) refl
   where
-    by : (found : Option Node) → node_of nodes x ≡ found → length (used_wires found) ≤ 32
+    by : (found : Option Node) → node_of nodes x ≡ found → length (used_wires found) ≤ most_inputs
     by None here = omega arith
     by (Some n) here = few_by n.node_type n (let few = few_inputs n.node_type in let e = (node_fits nodes x n all here).inputs in omega (arith, few, e))

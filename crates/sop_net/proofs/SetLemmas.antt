@@ -1,7 +1,7 @@
 -- Texts that are set for parameters of the node at a place.
 use Rattle.std.proofs.Common.{◌≡◌, ◌∙◌, sym, ap, subst, ℕ, ◌<◌, List, [], ◌∷◌, length, get_or, set}
 use Rattle.std.specs.Prelude.{None, Some, Ok, position, bytes_eq, slice_set}
-use Rattle.sop_net.specs.declared.edit.Edit.{Edit}
+use Rattle.sop_net.specs.declared.staged.StagedText.{StagedText}
 use Rattle.sop_net.specs.declared.node_type.NodeType.{NodeType}
 use Rattle.sop_net.specs.declared.node.Node.{Node}
 use Rattle.sop_net.specs.Network.{Network, place_named, IsNodeOf}
@@ -9,7 +9,7 @@ use Rattle.sop_net.specs.NodeTable.{parms_of}
 use Rattle.sop_net.specs.Order.{IsKept}
 use Rattle.sop_net.specs.Steps.{refusal_of_pair, refusal_of_pairs, first_of, set_at, with_pairs, with_changed, unless_refused, set_on, set_node}
 use Rattle.sop_net.proofs.ChangeLemmas.{same-read, kept-rewired_not, on_named-at}
-use Rattle.sop_net.proofs.EditLemmas.{values-length, values-pairs}
+use Rattle.sop_net.proofs.StagedLemmas.{values-length, values-pairs}
 
 module _ (nodes : List Node) (names : List (List ℕ)) (order : List ℕ) (added at : ℕ) (kept : IsKept nodes names order added) (within : at < length nodes) (m n : Node) (judged : m ≡ get_or nodes at m) (read : n ≡ get_or nodes at n) where
   is-node : IsNodeOf n
@@ -44,6 +44,6 @@ module _ (nodes : List Node) (names : List (List ℕ)) (order : List ℕ) (added
 pub one-fine : (node_type : NodeType) (name value : List ℕ) → refusal_of_pair node_type name value ≡ None → refusal_of_pairs node_type (name ∷ value ∷ []) ≡ None
 one-fine node_type name value fine = ap (λ end. first_of end None) fine
 
-pub one-set : (node_type : NodeType) (texts : List (List ℕ)) (name value : List ℕ) (e : Edit) → position (λ p. bytes_eq p.name name) (parms_of node_type) ≡ Some e.at → e.text ≡ value
+pub one-set : (node_type : NodeType) (texts : List (List ℕ)) (name value : List ℕ) (e : StagedText) → position (λ p. bytes_eq p.name name) (parms_of node_type) ≡ Some e.at → e.text ≡ value
     → with_pairs node_type texts (name ∷ value ∷ []) ≡ slice_set texts e.at e.text
 one-set node_type texts name value e at is = ap (λ place. set_at place texts value) at ∙ ap (slice_set texts e.at) (sym is)

@@ -6,7 +6,7 @@ pub mod Graph
 pub mod Network
 pub mod Order
 pub mod Steps
-pub mod Edits
+pub mod Staged
 pub mod Sockets
 pub mod Needs
 pub mod Listing

@@ -1,6 +1,7 @@
 -- The types of nodes: the word of each, its number of inputs, whether these may stay unwired, and its parameters in order, each with the
 -- values that it takes and the one that it has at first.
 use Rattle.std.specs.Prelude.{ℕ, ℤ, pos, neg_ℤ, Bool, true, false, List, [], ◌∷◌, map, codes, Option, find, bytes_eq}
+use Rattle.sop_net.specs.Limits.{most_inputs}
 use Rattle.sop_net.specs.declared.node_type.NodeType.{NodeType}
 use Rattle.sop_net.specs.declared.node_type.NodeType.TheVariants as type
 
@@ -90,7 +91,7 @@ row_of type.Box = row (codes "box") 0 false
     (vector (codes "size") (codes "1 1 1")
     ∷ vector (codes "center") (codes "0 0 0") ∷ [])
 row_of type.Null = row (codes "null") 1 false []
-row_of type.Switch = row (codes "switch") 32 false (whole (codes "input") (codes "0") (pos 0) (pos 31) ∷ [])
+row_of type.Switch = row (codes "switch") most_inputs false (whole (codes "input") (codes "0") (pos 0) (pos 31) ∷ [])
 row_of type.Xform = row (codes "xform") 1 false
     (vector (codes "t") (codes "0 0 0")
     ∷ vector (codes "s") (codes "1 1 1")
@@ -103,7 +104,7 @@ row_of type.AttribCreate = row (codes "attribcreate") 1 false
     ∷ pattern ∷ [])
 row_of type.AttribDelete = row (codes "attribdelete") 1 false (any_class ∷ text (codes "names") [] ∷ [])
 row_of type.Enumerate = row (codes "enumerate") 1 false (any_class ∷ text (codes "name") (codes "index") ∷ pattern ∷ [])
-row_of type.Merge = row (codes "merge") 32 true []
+row_of type.Merge = row (codes "merge") most_inputs true []
 row_of type.Blast = row (codes "blast") 1 false
     (choice (codes "class") (codes "prim") (codes "point" ∷ codes "vertex" ∷ [])
     ∷ pattern

@@ -1,7 +1,6 @@
 //! The network: nodes with their parameters and wires, which never go in a circle.
 #![tactic(auto)]
 
-mod edit;
 mod input;
 mod law;
 pub mod limits;
@@ -12,6 +11,7 @@ mod node;
 mod node_type;
 mod order;
 mod place;
+mod staged;
 mod table;
 mod value;
 

@@ -10,7 +10,6 @@ ghost use Rattle.sop_model.specs.Names.{is_name};
 ghost use Rattle.sop_net.specs.Needs.{needed, file_of};
 ghost use Rattle.sop_net.specs.Sockets.{sockets_from, sockets_of};
 
-use crate::edit::{staged, staged_pairs};
 use crate::input::input_below;
 use crate::limits::{MOST_ADDED, MOST_NODES};
 use crate::needs::needs_of;
@@ -19,6 +18,7 @@ use crate::node::{Node, NodeId, Parms, Sockets};
 use crate::node_type::NodeType;
 use crate::order::{Order, push_reserved};
 use crate::place::place;
+use crate::staged::{staged_pairs, staged_text};
 use indexmap::IndexSet;
 use sop_model::is_name;
 use sop_outside::{Text, TextList};
@@ -119,9 +119,9 @@ impl Net {
         let Some(at) = self.place_named(node) else {
             return Err(NetEnd::NoNode);
         };
-        let edit = staged(self.alloc, self.nodes[at].node_type, parm, value)?;
+        let next = staged_text(self.alloc, self.nodes[at].node_type, parm, value)?;
         let node = &mut self.nodes[at];
-        node.parms.set(edit.at, edit.text);
+        node.parms.set(next.at, next.text);
         Ok(())
     }
 

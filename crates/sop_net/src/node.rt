@@ -1,7 +1,7 @@
 // Nodes, their parameters and their wires.
 ghost use Rattle.std.specs.Prelude.{◌≡◌, ◌<◌, IfOk, length, map, replicate, unwrap_or, slice_get, slice_set, Some, None};
 ghost use Rattle.sop_net.specs.NodeTable.{default_parms};
-ghost use Rattle.sop_net.specs.Edits.{staged_over};
+ghost use Rattle.sop_net.specs.Staged.{staged_over};
 ghost use Rattle.sop_net.specs.Limits.{most_inputs};
 ghost use Rattle.sop_net.specs.Network.{wire_at};
 ghost use Rattle.sop_net.specs.Steps.{unless_from};
@@ -194,7 +194,9 @@ pub struct Node {
     pub number: NodeId,
     pub name: Text,
     pub node_type: NodeType,
+    /// A text for each parameter of its type.
     pub parms: Parms,
+    /// A wire or none for each input of its type.
     pub wires: WireList,
 }
 

@@ -1,4 +1,5 @@
 // The table of nodes: the word of each type, its inputs and its parameters.
+use crate::limits::MOST_INPUTS;
 
 /// The values that a parameter takes.
 #[derive(Clone, Copy)]
@@ -160,7 +161,7 @@ pub static NULL: TypeRow = TypeRow {
 
 pub static SWITCH: TypeRow = TypeRow {
     word: "switch",
-    inputs: 32,
+    inputs: MOST_INPUTS,
     is_optional: false,
     parms: &[Parm {
         name: "input",
@@ -268,7 +269,7 @@ pub static ENUMERATE: TypeRow = TypeRow {
 
 pub static MERGE: TypeRow = TypeRow {
     word: "merge",
-    inputs: 32,
+    inputs: MOST_INPUTS,
     is_optional: true,
     parms: &[],
 };

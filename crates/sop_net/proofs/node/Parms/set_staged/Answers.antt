@@ -1,6 +1,6 @@
 use Rattle.std.proofs.Common.{◌≡◌, ◌∙◌, ap, sym, [], length, rules, arith}
-use Rattle.sop_net.specs.Edits.{staged_over}
-use Rattle.sop_net.proofs.EditLemmas.{over-none, over-step}
+use Rattle.sop_net.specs.Staged.{staged_over}
+use Rattle.sop_net.proofs.StagedLemmas.{over-none, over-step}
 use Rattle.sop_net.proofs.node.Parms.set_staged.Goals as goal
 
 pub loop-text-preserved : goal.loop-text-preserved

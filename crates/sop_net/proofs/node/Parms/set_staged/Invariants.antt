@@ -1,5 +1,5 @@
 use Rattle.std.proofs.Common.{◌≡◌, ◌≤◌, length}
-use Rattle.sop_net.specs.Edits.{staged_over}
+use Rattle.sop_net.specs.Staged.{staged_over}
 use Rattle.sop_net.proofs.node.Parms.set_staged.Given as goal
 
 abbrev pub invariant-loop-text : goal.invariant-loop-text

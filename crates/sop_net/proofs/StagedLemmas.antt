@@ -6,7 +6,7 @@ use Rattle.std.proofs.Math.ListN.{get_or-map}
 use Rattle.std.proofs.Math.Seq.{take-length}
 use Rattle.std.proofs.lemmas.Option.{slice_get-get_or}
 use Rattle.sop_net.specs.declared.node_type.NodeType.{NodeType}
-use Rattle.sop_net.specs.declared.edit.Edit.{Edit}
+use Rattle.sop_net.specs.declared.staged.StagedText.{StagedText}
 use Rattle.sop_net.specs.declared.net_end.NetEnd.{NetEnd}
 use Rattle.sop_net.specs.declared.net_end.NetEnd.TheVariants.{NoParm, BadValue}
 use Rattle.sop_net.specs.declared.table.Parm as code
@@ -14,7 +14,7 @@ use Rattle.sop_net.specs.Network.{AreValues}
 use Rattle.sop_net.specs.NodeTable.{Parm, parms_of}
 use Rattle.sop_net.specs.ParmValues.{is_value}
 use Rattle.sop_net.specs.Rows.{parm_meant, kind_meant}
-use Rattle.sop_net.specs.Edits.{staged_over}
+use Rattle.sop_net.specs.Staged.{staged_over}
 use Rattle.sop_net.specs.Steps.{refusal_of_value, refusal_of_pair, first_of, refusal_of_pairs, set_at, with_pair, with_pairs}
 use Rattle.sop_net.proofs.Searches.{find-position, position-within, find-no_position}
 
@@ -87,7 +87,7 @@ staged-start node_type pairs n staged all none = record {
 take-rest : {A : Type 0} (xs : List A) → take (suc (suc (length xs)) - 2) xs ≡ xs
 take-rest xs = let e : suc (suc (length xs)) - 2 ≡ length xs = omega arith in ap (λ k. take k xs) e ∙ take-length xs
 
-staged-on : (node_type : NodeType) (pairs rest : List (List ℕ)) (name value : List ℕ) (staged : List (Option (List ℕ))) (e : Edit)
+staged-on : (node_type : NodeType) (pairs rest : List (List ℕ)) (name value : List ℕ) (staged : List (Option (List ℕ))) (e : StagedText)
     → IsStaged node_type pairs (name ∷ value ∷ rest) staged → refusal_of_pair node_type name value ≡ None → position (λ p. bytes_eq p.name name) (parms_of node_type) ≡ Some e.at → e.text ≡ value
     → IsStaged node_type pairs rest (set staged e.at (Some e.text))
 staged-on node_type pairs rest name value staged e s fine at is =
@@ -100,7 +100,7 @@ staged-on node_type pairs rest name value staged e s fine at is =
       places = length-set staged e.at (Some e.text) ∙ s.places;
     }
 
-pub staged-step : (node_type : NodeType) (pairs left rest : List (List ℕ)) (name value : List ℕ) (staged : List (Option (List ℕ))) (e : Edit)
+pub staged-step : (node_type : NodeType) (pairs left rest : List (List ℕ)) (name value : List ℕ) (staged : List (Option (List ℕ))) (e : StagedText)
     → IsStaged node_type pairs left staged → 2 ≤ length left → name ≡ get_or left 0 name → value ≡ get_or left 1 value → rest ≡ take (length left - 2) (drop 2 left)
     → refusal_of_pair node_type name value ≡ None → position (λ p. bytes_eq p.name name) (parms_of node_type) ≡ Some e.at → e.text ≡ value
     → IsStaged node_type pairs rest (set staged e.at (Some e.text))

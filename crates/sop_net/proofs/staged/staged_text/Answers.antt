@@ -1,8 +1,8 @@
 use Rattle.std.proofs.Common.{◌∙◌, sym, ap, inr, None, Some}
 use Rattle.std.specs.Prelude.{if◌then◌else◌}
 use Rattle.sop_net.specs.declared.net_end.NetEnd.TheVariants.{BadValue}
-use Rattle.sop_net.proofs.EditLemmas.{judged-none, judged-some}
-use Rattle.sop_net.proofs.edit.staged.Goals as goal
+use Rattle.sop_net.proofs.StagedLemmas.{judged-none, judged-some}
+use Rattle.sop_net.proofs.staged.staged_text.Goals as goal
 
 pub returns-in_default-clause-refused : goal.returns-in_default-clause-refused
 returns-in_default-clause-refused c = inr (judged-none c.row.result.now.parms.now c.args.node_type c.args.name.now c.args.value.now (ap (λ row. row.parms) c.row.ensures) (sym c.in_default.ensures))

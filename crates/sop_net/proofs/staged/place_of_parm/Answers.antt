@@ -6,7 +6,7 @@ use Rattle.sop_net.specs.Rows.{parm_meant}
 use Rattle.sop_net.specs.declared.table.Parm.{Parm}
 use Rattle.sop_net.specs.NodeTable as table
 use Rattle.sop_net.proofs.Searches.{position-map}
-use Rattle.sop_net.proofs.edit.place_of_parm.Goals as goal
+use Rattle.sop_net.proofs.staged.place_of_parm.Goals as goal
 
 pub returns : goal.returns
 returns c =

@@ -2,7 +2,7 @@
 ghost use Rattle.std.specs.Prelude.{◌≡◌, ◌⊎◌, ℕ, List, IfOk, IfErr, Some, None, length, map, position, bytes_eq, replicate};
 ghost use Rattle.sop_net.specs.NodeTable.{parms_of};
 ghost use Rattle.sop_net.specs.Rows.{parm_meant};
-ghost use Rattle.sop_net.specs.Edits.{staged_over};
+ghost use Rattle.sop_net.specs.Staged.{staged_over};
 ghost use Rattle.sop_net.specs.Steps.{refusal_of_pair, refusal_of_pairs, with_pairs};
 
 use crate::net_end::NetEnd;
@@ -13,15 +13,20 @@ use std::alloc::{AllocError, Global};
 
 /// A text for a parameter, which goes by its place.
 #[derive(Drop)]
-pub struct Edit {
+pub struct StagedText {
     pub at: usize,
     pub text: Text,
 }
 
 /// A text for a parameter of a type, judged: `NoParm`, then `BadValue`.
-pub fn staged(alloc: Global, node_type: NodeType, name: &str, value: &str) -> Result<Edit, NetEnd>
-    ensures ok { IfOk result (λ edit. refusal_of_pair node_type name.now value.now ≡ None) }
-    ensures edit { IfOk result (λ edit. (position (λ p. bytes_eq p.name name.now) (parms_of node_type) ≡ Some edit.at) × (edit.text ≡ value.now)) }
+pub fn staged_text(
+    alloc: Global,
+    node_type: NodeType,
+    name: &str,
+    value: &str,
+) -> Result<StagedText, NetEnd>
+    ensures ok { IfOk result (λ next. refusal_of_pair node_type name.now value.now ≡ None) }
+    ensures text { IfOk result (λ next. (position (λ p. bytes_eq p.name name.now) (parms_of node_type) ≡ Some next.at) × (next.text ≡ value.now)) }
     ensures refused { IfErr result (λ end. (end ≡ NetEnd.Memory) ⊎ (refusal_of_pair node_type name.now value.now ≡ Some end)) }
 {
     let parms = node_type.row().parms;
@@ -33,7 +38,7 @@ pub fn staged(alloc: Global, node_type: NodeType, name: &str, value: &str) -> Re
         return Err(NetEnd::BadValue);
     }
     let text = Text::from_str(alloc, value)?;
-    Ok(Edit { at, text })
+    Ok(StagedText { at, text })
 }
 
 fn place_of_parm(parms: &[Parm], name: &str) -> Option<usize>
@@ -56,8 +61,8 @@ pub fn staged_pairs(
     let mut texts = nothing_staged(alloc, node_type.row().parms.len())?;
     let mut left = pairs;
     while let [name, value, rest @ ..] = left {
-        let edit = staged(alloc, node_type, name.as_str(), value.as_str())?;
-        texts[edit.at] = Some(edit.text);
+        let next = staged_text(alloc, node_type, name.as_str(), value.as_str())?;
+        texts[next.at] = Some(next.text);
         left = rest;
     }
     Ok(texts)
