@@ -1,4 +1,4 @@
-// A geometry of rows, read as it stands.
+// A geometry of rows, read as it stands, by each call of a view.
 ghost use Rattle.std.specs.Prelude.{◌≡◌, ◌<◌, ◌≤◌, ◌^◌, length, Some, None, slice_get, position};
 ghost use Rattle.std.specs.Option.{option_map};
 ghost use Rattle.std.specs.Str.{bytes_eq};
@@ -12,63 +12,6 @@ use crate::primitives::PrimList;
 use crate::value::{Kind, ValueRef};
 use crate::view::GeoView;
 use sop_outside::Text;
-
-fn head_set(geo: &Geo, class: Class) -> &HeadSet
-    ensures { result.now ≡ heads_of geo.now class }
-{
-    match class {
-        Class::Detail => &geo.detail,
-        Class::Prim => &geo.prim,
-        Class::Point => &geo.point,
-        Class::Vertex => &geo.vertex,
-    }
-}
-
-/// The vertex of this number.
-fn corner(prims: &PrimList, vertex: u32) -> &Corner
-    requires { vertex < length (corners_of prims.now) }
-    ensures { slice_get (corners_of prims.now) vertex ≡ Some result.now }
-{
-    let number = u64::from(vertex);
-    let prim = prims.prim_of(number);
-    let first = prims.first_vertex(prim);
-    prims.get(prim).corners.get((number - first) as usize)
-}
-
-/// The row of an element.
-fn row(geo: &Geo, class: Class, element: u32) -> &Row
-    requires { element < length (rows_of geo.now class) }
-    ensures { slice_get (rows_of geo.now class) element ≡ Some result.now }
-{
-    match class {
-        Class::Detail => &geo.detail_row,
-        Class::Prim => &geo.prims.get(element as usize).row,
-        Class::Point => geo.points.get(element as usize),
-        Class::Vertex => &corner(&geo.prims, element).row,
-    }
-}
-
-/// The place of the attribute of this name.
-fn head_place(heads: &[Head], name: &str) -> Option<u32>
-    requires { length heads.now ≤ most_heads }
-    ensures { result ≡ position (λ h. bytes_eq h.name name.now) heads.now }
-{
-    match heads.iter().position(|head| head.name.as_str() == name) {
-        Some(place) => Some(place as u32),
-        None => None,
-    }
-}
-
-/// The place of the group of this name.
-fn group_place(groups: &[Text], name: &str) -> Option<u32>
-    requires { length groups.now ≤ most_groups }
-    ensures { result ≡ position (λ g. bytes_eq g name.now) groups.now }
-{
-    match groups.iter().position(|group| group.as_str() == name) {
-        Some(place) => Some(place as u32),
-        None => None,
-    }
-}
 
 impl GeoView for Geo {
     ghost use Rattle.sop_model.specs.declared.geo.Geo.{Geo};
@@ -139,4 +82,61 @@ impl GeoView for Geo {
     fn prim_of(&self, vertex: u32) -> u32 {
         self.prims.prim_of(u64::from(vertex)) as u32
     }
+}
+
+fn head_set(geo: &Geo, class: Class) -> &HeadSet
+    ensures { result.now ≡ heads_of geo.now class }
+{
+    match class {
+        Class::Detail => &geo.detail,
+        Class::Prim => &geo.prim,
+        Class::Point => &geo.point,
+        Class::Vertex => &geo.vertex,
+    }
+}
+
+/// The place of the attribute of this name.
+fn head_place(heads: &[Head], name: &str) -> Option<u32>
+    requires { length heads.now ≤ most_heads }
+    ensures { result ≡ position (λ h. bytes_eq h.name name.now) heads.now }
+{
+    match heads.iter().position(|head| head.name.as_str() == name) {
+        Some(place) => Some(place as u32),
+        None => None,
+    }
+}
+
+/// The place of the group of this name.
+fn group_place(groups: &[Text], name: &str) -> Option<u32>
+    requires { length groups.now ≤ most_groups }
+    ensures { result ≡ position (λ g. bytes_eq g name.now) groups.now }
+{
+    match groups.iter().position(|group| group.as_str() == name) {
+        Some(place) => Some(place as u32),
+        None => None,
+    }
+}
+
+/// The row of an element.
+fn row(geo: &Geo, class: Class, element: u32) -> &Row
+    requires { element < length (rows_of geo.now class) }
+    ensures { slice_get (rows_of geo.now class) element ≡ Some result.now }
+{
+    match class {
+        Class::Detail => &geo.detail_row,
+        Class::Prim => &geo.prims.get(element as usize).row,
+        Class::Point => geo.points.get(element as usize),
+        Class::Vertex => &corner(&geo.prims, element).row,
+    }
+}
+
+/// The vertex of this number.
+fn corner(prims: &PrimList, vertex: u32) -> &Corner
+    requires { vertex < length (corners_of prims.now) }
+    ensures { slice_get (corners_of prims.now) vertex ≡ Some result.now }
+{
+    let number = u64::from(vertex);
+    let prim = prims.prim_of(number);
+    let first = prims.first_vertex(prim);
+    prims.get(prim).corners.get((number - first) as usize)
 }

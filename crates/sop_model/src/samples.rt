@@ -30,16 +30,6 @@ fn made_point(alloc: Global, place: Vec3) -> Result<Geo, AllocError>
     Ok(geo)
 }
 
-/// The attribute `P` and the group `g`.
-fn grouped(alloc: Global) -> Result<HeadSet, AllocError>
-    ensures { IfOk result (λ set. set ≡ grouped_set) }
-{
-    let HeadSet { heads, groups: _ } = HeadSet::position(alloc)?;
-    let mut groups = TextList::new(alloc);
-    groups.add(Text::from_str(alloc, "g")?)?;
-    Ok(HeadSet { heads, groups })
-}
-
 /// A point at a place, and a member of the one group.
 fn member(alloc: Global, place: Vec3) -> Result<Row, AllocError>
     ensures { IfOk result (λ row. row ≡ member_row place) }
@@ -62,4 +52,14 @@ pub fn one_vertex(alloc: Global) -> Result<Primitive, AllocError>
         row: Row::empty(alloc),
         corners,
     })
+}
+
+/// The attribute `P` and the group `g`.
+fn grouped(alloc: Global) -> Result<HeadSet, AllocError>
+    ensures { IfOk result (λ set. set ≡ grouped_set) }
+{
+    let HeadSet { heads, groups: _ } = HeadSet::position(alloc)?;
+    let mut groups = TextList::new(alloc);
+    groups.add(Text::from_str(alloc, "g")?)?;
+    Ok(HeadSet { heads, groups })
 }
