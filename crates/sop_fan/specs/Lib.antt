@@ -1,4 +1,4 @@
 pub mod Jobs
 pub mod Hauls
 pub mod Places
-pub mod Squares
+pub mod Doubles

@@ -1,8 +1,8 @@
 // The answer of all workers.
-ghost use Rattle.std.specs.Prelude.{◌≤◌, ◌^◌, IfOk, IfErr, MatchResult};
+ghost use Rattle.std.specs.Prelude.{ℕ, ◌<◌, ◌≤◌, ◌^◌, IfOk, IfErr, MatchResult};
 ghost use Rattle.sop_fan.specs.Jobs.{AreAnswers, IsFirstFault, IsEndOf};
 
-use crate::job::{FanEnd, Job};
+use crate::job::{FanEnd, Job, MOST_WORKERS};
 use crate::placing::in_order;
 use crate::worker::{Haul, spread};
 use sop_claim::Board;
@@ -19,7 +19,8 @@ fn outcome<R: Threads + Sync, J: Job + Sync, G: Gate + Sync>(
     gate: &G,
     job: &J,
 ) -> Result<Result<Vec<J::Out>, (u32, J::Fault)>, AllocError>
-    requires { (1 ≤ workers) × (workers ≤ 64) }
+    requires workers { (1 ≤ workers) × (workers ≤ MOST_WORKERS) }
+    requires ready { (k : ℕ) → k < n → J.ready job.now k }
     ensures ok { IfOk result (λ end. IfOk end (λ outs. AreAnswers (J.fault job.now) (J.admits job.now) n outs.items)) }
     ensures fault { IfOk result (λ end. IfErr end (λ found. IsFirstFault (J.fault job.now) n found.0 found.1)) }
 {
@@ -32,7 +33,7 @@ fn outcome<R: Threads + Sync, J: Job + Sync, G: Gate + Sync>(
     }
 }
 
-/// Runs the tickets 0 to n-1 of a job by 1 to 64 workers, each in a thread of its own where threads
+/// Runs the tickets 0 to n-1 of a job by 1 to `MOST_WORKERS` workers, each in a thread of its own where threads
 /// can be had. A worker draws a ticket, enters the gate, and then runs the ticket, or skips it where
 /// a lesser one has a fault. It ends once all tickets are drawn.
 ///
@@ -46,13 +47,13 @@ pub fn gather<R: Threads + Sync, J: Job + Sync, G: Gate + Sync>(
     gate: &G,
     job: &J,
 ) -> Result<Vec<J::Out>, FanEnd<J::Fault>>
-    requires { (1 ≤ workers) × (workers ≤ 64) }
+    requires workers { (1 ≤ workers) × (workers ≤ MOST_WORKERS) }
+    requires ready { (k : ℕ) → k < n → J.ready job.now k }
     ensures ok { IfOk result (λ outs. AreAnswers (J.fault job.now) (J.admits job.now) n outs.items) }
     ensures err { IfErr result (IsEndOf (J.fault job.now) n) }
 {
-    match outcome(rt, alloc, workers, n, gate, job) {
-        Ok(Ok(outs)) => Ok(outs),
-        Ok(Err((k, fault))) => Err(FanEnd::Fault(k, fault)),
-        Err(AllocError) => Err(FanEnd::Memory),
+    match outcome(rt, alloc, workers, n, gate, job)? {
+        Ok(outs) => Ok(outs),
+        Err((k, fault)) => Err(FanEnd::Fault(k, fault)),
     }
 }

@@ -7,7 +7,7 @@ mod placing;
 mod worker;
 
 pub use fan::gather;
-pub use job::{FanEnd, Job, Stop};
+pub use job::{FanEnd, Job, MOST_WORKERS, Stop};
 
 #[cfg(test)]
 mod tests;

@@ -1,45 +1,98 @@
 use super::*;
 use sop_outside::{Gate, OpenGate};
+use std::alloc::Global;
 use std::sync::atomic::{AtomicBool, Ordering};
 use std::test::Fail;
 
-// Squares, but for the numbers from `bad` on, each of which is its own fault.
-#[derive(Drop)]
-struct Squares {
-    bad: u32,
+// Numbers that can be read while there are few of them.
+trait Numbers {
+    ghost use Rattle.std.specs.Prelude.{◌≡◌, ◌<◌, ℕ, List, length, slice_index};
+    ghost use Rattle.sop_fan.specs.Doubles.{AreReadable};
+
+    ghost numbers: { Self → List ℕ };
+
+    fn number(&self, i: u32) -> u32
+        requires readable { AreReadable (numbers self.now) }
+        requires in_range { i < length (numbers self.now) }
+        ensures { result ≡ slice_index (numbers self.now) i };
 }
 
-impl Job for Squares {
-    type Out = u64;
+#[derive(Drop)]
+struct Few {
+    items: [u32; 5],
+}
+
+impl Numbers for Few {
+    ghost numbers = { λ few. few.items };
+
+    fn number(&self, i: u32) -> u32 {
+        self.items[i as usize]
+    }
+}
+
+// Twice the numbers of a view, `width` of them a ticket. A ticket whose first number is 0 is faulty, and the
+// fault is that number's place.
+#[derive(Drop)]
+struct Doubles<'a, V: Numbers + Sync> {
+    view: &'a V,
+    width: u32,
+    alloc: Global,
+}
+
+impl<'a, V: Numbers + Sync> Job for Doubles<'a, V> {
+    type Out = Vec<u64>;
 
     type Fault = u32;
 
-    ghost use Rattle.sop_fan.specs.Squares.{square_fault, IsSquare};
+    ghost use Rattle.sop_fan.specs.Doubles.{CanDouble, double_fault, AreDoubles};
 
-    ghost fault = { λ job k. square_fault job.bad k };
+    ghost ready = { λ job k. CanDouble (V.numbers job.view.now) job.width k };
 
-    ghost admits = { λ job k out. IsSquare k out };
+    ghost fault = { λ job k. double_fault (V.numbers job.view.now) job.width k };
 
-    fn run(&self, k: u32) -> Result<u64, Stop<u32>> {
-        if k >= self.bad {
-            return Err(Stop::Fault(k));
+    ghost admits = { λ job k out. AreDoubles (V.numbers job.view.now) job.width k out.items };
+
+    fn run(&self, k: u32) -> Result<Vec<u64>, Stop<u32>> {
+        let first = k * self.width;
+        if self.view.number(first) == 0 {
+            return Err(Stop::Fault(first));
         }
-        Ok(u64::from(k) * u64::from(k))
+        let mut doubles = Vec::new(self.alloc);
+        for i in 0..self.width {
+            doubles.push(2 * u64::from(self.view.number(first + i)))?;
+        }
+        Ok(doubles)
     }
 }
 
 #[test]
 fn gathers_in_order(rt: HostRuntime) -> Result<(), Fail> {
-    let job = Squares { bad: 3 };
-    let outs = gather(&rt, rt.alloc(), 2, 3, &OpenGate, &job)?;
-    assert_eq!(rt; outs.as_slice(), [0, 1, 4].as_slice());
+    let view = Few {
+        items: [1, 2, 3, 4, 5],
+    };
+    let job = Doubles {
+        view: &view,
+        width: 2,
+        alloc: rt.alloc(),
+    };
+    let outs = gather(&rt, rt.alloc(), 2, 2, &OpenGate, &job)?;
+    for (out, wanted) in outs.iter().zip([[2, 4], [6, 8]]) {
+        assert!(rt; out.as_slice() == wanted.as_slice());
+    }
     Ok(())
 }
 
 #[test]
 fn tells_the_least_fault(rt: HostRuntime) {
-    let job = Squares { bad: 1 };
-    let found = gather(&rt, rt.alloc(), 2, 3, &OpenGate, &job);
+    let view = Few {
+        items: [1, 0, 0, 4, 5],
+    };
+    let job = Doubles {
+        view: &view,
+        width: 1,
+        alloc: rt.alloc(),
+    };
+    let found = gather(&rt, rt.alloc(), 2, 5, &OpenGate, &job);
     assert!(rt; matches!(&found, Err(FanEnd::Fault(1, 1))));
 }
 
@@ -75,9 +128,16 @@ fn works_side_by_side(rt: HostRuntime) -> Result<(), Fail> {
         second: AtomicBool::new(false),
         gave_up: AtomicBool::new(false),
     };
-    let job = Squares { bad: 100 };
-    let outs = gather(&rt, rt.alloc(), 2, 100, &gate, &job)?;
-    assert_eq!(rt; outs.last().copied(), Some(9801));
+    let view = Few {
+        items: [1, 2, 3, 4, 5],
+    };
+    let job = Doubles {
+        view: &view,
+        width: 1,
+        alloc: rt.alloc(),
+    };
+    let outs = gather(&rt, rt.alloc(), 2, 5, &gate, &job)?;
+    assert_eq!(rt; outs.len(), 5);
     assert!(rt; !gate.gave_up.load(Ordering::SeqCst));
     Ok(())
 }

@@ -1,8 +1,8 @@
 // Workers, each with a pass of one board, and what they bring back.
-ghost use Rattle.std.specs.Prelude.{◌≡◌, ◌+◌, ◌-◌, ◌<◌, ◌≤◌, ◌++◌, OnOk, IfOk};
+ghost use Rattle.std.specs.Prelude.{◌≡◌, ℕ, ◌+◌, ◌-◌, ◌<◌, ◌≤◌, ◌++◌, OnOk, IfOk};
 ghost use Rattle.std.specs.Thread.{IsSync};
 ghost use Rattle.sop_claim.specs.Views.{IsHeld, share, joined};
-ghost use Rattle.sop_claim.specs.Passes.{view_of, IsPassOf};
+ghost use Rattle.sop_claim.specs.Passes.{view_of, IsPassOf, tickets};
 ghost use Rattle.sop_fan.specs.Hauls.{Carries, SameDraws, SettlesOne, IsBlank, IsHaul, lesser};
 
 use crate::job::{Job, Stop};
@@ -27,6 +27,7 @@ fn settle<J: Job>(
     haul: &mut Haul<J::Out, J::Fault>,
     k: u32,
 ) -> Result<(), AllocError>
+    requires ready { J.ready job.now k }
     requires pass { IsPassOf board.now haul.old.pass }
     requires held { IsHeld (view_of haul.old.pass) k }
     requires carries { Carries (J.fault job.now) (J.admits job.now) (view_of haul.old.pass) haul.old.outs.items haul.old.fault }
@@ -63,6 +64,7 @@ fn work<J: Job, G: Gate>(
     gate: &G,
     job: &J,
 ) -> Result<Haul<J::Out, J::Fault>, AllocError>
+    requires ready { (k : ℕ) → k < tickets board.now → J.ready job.now k }
     requires pass { IsPassOf board.now pass }
     requires room { 1 ≤ (view_of pass).room }
     requires blank { IsBlank (view_of pass) }
@@ -119,6 +121,7 @@ pub fn spread<R: Threads + Sync, J: Job + Sync, G: Gate + Sync>(
     job: &J,
 ) -> Result<Haul<J::Out, J::Fault>, AllocError>
     requires some { 1 ≤ workers }
+    requires ready { (k : ℕ) → k < tickets board.now → J.ready job.now k }
     requires pass { IsPassOf board.now pass }
     requires room { workers ≤ (view_of pass).room }
     requires blank { IsBlank (view_of pass) }
@@ -131,11 +134,11 @@ pub fn spread<R: Threads + Sync, J: Job + Sync, G: Gate + Sync>(
     let (one, others) = join(
         rt,
         move || -> Result<Haul<J::Out, J::Fault>, AllocError>
-            requires { IsPassOf board.now other × (1 ≤ (view_of other).room) × IsBlank (view_of other) }
+            requires { ((k : ℕ) → k < tickets board.now → J.ready job.now k) × IsPassOf board.now other × (1 ≤ (view_of other).room) × IsBlank (view_of other) }
             ensures { IfOk result (λ haul. IsHaul (J.fault job.entry.now) (J.admits job.entry.now) board.entry.now (share (view_of other)) haul.pass haul.outs.items haul.fault) }
         { work(alloc, board, other, gate, job) },
         move || -> Result<Haul<J::Out, J::Fault>, AllocError>
-            requires { IsSync R.row × IsSync J.row × IsSync G.row × (2 ≤ workers) × IsPassOf board.now pass × (workers - 1 ≤ (view_of pass).room) × IsBlank (view_of pass) }
+            requires { IsSync R.row × IsSync J.row × IsSync G.row × (2 ≤ workers) × ((k : ℕ) → k < tickets board.now → J.ready job.now k) × IsPassOf board.now pass × (workers - 1 ≤ (view_of pass).room) × IsBlank (view_of pass) }
             ensures { IfOk result (λ haul. IsHaul (J.fault job.entry.now) (J.admits job.entry.now) board.entry.now (share (view_of pass)) haul.pass haul.outs.items haul.fault) }
         { spread(rt, alloc, workers - 1, board, pass, gate, job) },
     );
