@@ -12,7 +12,7 @@ use Rattle.sop_model.specs.declared.class.Class.TheVariants.{Detail, Prim, Point
 use Rattle.sop_model.specs.declared.geo.Geo.{Geo}
 use Rattle.sop_model.specs.Limits.{most_points, most_prims, most_vertices, most_heads, most_groups}
 use Rattle.sop_model.specs.Vertices.{size_of, corners_of}
-use Rattle.sop_model.specs.Geometry.{empty_row, heads_of, rows_of, row_weight, geo_weight, is_row_within, AreValuesWithin, HasOnlyPosition, IsGood, IsWithin, Fits}
+use Rattle.sop_model.specs.Geometry.{empty_row, empty_geo, heads_of, rows_of, row_weight, geo_weight, is_row_within, AreValuesWithin, HasOnlyPosition, IsGood, IsWithin, Fits}
 use Rattle.sop_model.specs.Plain.{IsPlain, IsPointRow, point_row, geo_of_points}
 use Rattle.sop_model.proofs.LimitsLemmas.{IsWithin-from, Fits-from, within_points}
 use Rattle.sop_model.proofs.PlainLemmas.{IsGood-from_plain, prim_rows, point_rows, vertex_rows}
@@ -97,3 +97,11 @@ points_are_good places g is = subst IsGood (sym is) (IsGood-points places)
 
 pub points_fit : (places : List Vec3) (g : Geo) → g ≡ geo_of_points places → length places ≤ most_points → Fits g
 points_fit places g is few = subst Fits (sym is) (Fits-points places few)
+
+-- the empty geometry is points alone, none of them
+
+pub IsGood-empty_geo : IsGood empty_geo
+IsGood-empty_geo = IsGood-points []
+
+pub Fits-empty_geo : Fits empty_geo
+Fits-empty_geo = Fits-points [] (omega arith)
