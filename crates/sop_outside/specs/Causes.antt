@@ -1,11 +1,15 @@
 -- Counts that never fall, and answers that come only where one of them rose.
 use Rattle.std.specs.Prelude.{ℕ, ◌+◌, ◌-◌, ◌^◌, ◌≤◌, min}
 
--- One more than a count, or 2^64 - 1, where every count stops.
-abbrev pub raised : ℕ → ℕ
-raised count = min (count + 1) (2 ^ 64 - 1)
+-- Where every count stops.
+abbrev pub last_count : ℕ
+last_count = 2 ^ 64 - 1
 
--- A count rose over a call: it is greater than before, or stands at 2^64 - 1.
+-- One more than a count, or the last count.
+abbrev pub raised : ℕ → ℕ
+raised count = min (count + 1) last_count
+
+-- A count rose over a call: it is greater than before, or stands at the last count.
 abbrev pub Rose : ℕ → ℕ → Type 0
 Rose before now = raised before ≤ now
 

@@ -74,6 +74,15 @@ impl<T> Items<T> {
         }
     }
 
+    /// Moves all items of `more` behind those that are there, or none of them for want of memory.
+    pub fn append(&mut self, more: &mut Items<T>) -> Result<(), AllocError>
+        ensures ok { OnOk result (self.new ≡ self.old ++ more.old) }
+        ensures moved { OnOk result (more.new ≡ []) }
+        ensures err { OnErr result ((self.new ≡ self.old) × (more.new ≡ more.old)) }
+    {
+        self.inner.append(&mut more.inner)
+    }
+
     /// Makes room for `more` items behind those that are there, so that they are appended without taking memory. The
     /// items stay as they are, also on `Err`, want of memory.
     pub fn reserve(&mut self, more: usize) -> Result<(), AllocError>

@@ -28,6 +28,9 @@ fn lists_are_changed_and_compared(rt: HostRuntime) -> Result<(), Fail> {
     let mut same = TextList::new(rt.alloc());
     same.add(Text::from_str(rt.alloc(), "last")?)?;
     assert!(rt; lists.contains(&same));
+    let mut all = TextList::new(rt.alloc());
+    all.append(&mut same)?;
+    assert_eq!(rt; (all.len(), same.len()), (1, 0));
     OpenGate.enter(7);
     Ok(())
 }
