@@ -1,188 +1,102 @@
--- The steps of a cook: what a node tells, and the merge of geometries so far.
-use Rattle.std.proofs.Common.{◌≡◌, Bool, true, false, ℕ, zero, suc, ◌+◌, ◌<◌, ◌≤◌, List, [], ◌∷◌, ◌++◌, length, take, drop, get_or, refl, sym, ◌∙◌, ap, subst, arith, nat_le, ◌&&◌, if◌then◌else◌}
-use Rattle.std.specs.Prelude.{All, Option, None, Some, Result, Ok, Err}
-use Rattle.std.proofs.lemmas.List.{take_more, drop_more, take-append-drop}
-use Rattle.std.proofs.lemmas.List.Elements.{All-nil, All-cons, All-append}
+-- The steps of a cook: what a node cooks to by its visit, and inputs that are asked for in turn.
+use Rattle.std.proofs.Common.{◌≡◌, Bool, true, ℕ, suc, ◌+◌, ◌<◌, ◌≤◌, List, [], ◌∷◌, ◌++◌, length, drop, get_or, sym, ◌∙◌, ap, subst, arith, append_assoc, append-nil}
+use Rattle.std.specs.Prelude.{Option, Some, Result, Err, IfSome, option_map}
+use Rattle.std.proofs.lemmas.List.{drop_more}
 use Rattle.std.proofs.lemmas.Grind.{common_steps}
 use Rattle.sop_model.specs.declared.geo.Geo.{Geo}
-use Rattle.sop_model.specs.declared.fault.Fault as fault
-use Rattle.sop_model.specs.declared.fault.Fault.TheVariants as variant
-use Rattle.sop_model.specs.declared.fault.CookStop.{CookStop}
-use Rattle.sop_model.specs.declared.fault.CookStop.TheVariants as stop
-use Rattle.sop_model.specs.Vertices.{corners_of}
-use Rattle.sop_model.specs.Geometry.{fits, class_fits, geo_weight}
-use Rattle.sop_model.specs.Merge.{merged}
-use Rattle.sop_model.specs.Plain.{IsPlain, plain_append}
-use Rattle.sop_model.proofs.PlainMerge.{merged-push}
-use Rattle.sop_model.proofs.LimitsLemmas.{fits-true}
 use Rattle.sop_net.specs.declared.node.Node.{Node}
 use Rattle.sop_net.specs.declared.node_type.NodeType.{NodeType}
 use Rattle.sop_net.specs.Graph.{Within}
-use Rattle.sop_net.specs.Network.{node_of, wire_at, used_sources}
+use Rattle.sop_net.specs.Network.{node_of, used_sources}
+use Rattle.sop_net.specs.Sockets.{Socket, sockets_from, sockets_of}
+use Rattle.sop_net.proofs.ReadLemmas.{read_node}
 use Rattle.sop_cook.specs.declared.cook_end.CookEnd.{CookEnd}
 use Rattle.sop_cook.specs.declared.cook_end.CookEnd.TheVariants as end
 use Rattle.sop_cook.specs.Loads.{FileMap}
-use Rattle.sop_cook.specs.SerialCook.{Outcome, Failure, then_with, at_node, merge_geo, gathered, merge_outcome, visit, visit_type, cook_of}
-use Rattle.sop_cook.specs.Keeping.{Tells, TellsAll, TellsMade, IsReady, is_over_limits, are_over}
-use Rattle.sop_cook.proofs.MergeLemmas.{points_in, prims_in, vertices_in, length-merged_points, length-merged_prims, length-merged_corners}
-use Rattle.sop_cook.proofs.GatherLemmas.{after, gathered-append, gathered-skip, gathered-push}
-use Rattle.sop_cook.proofs.ReadyLemmas.{IsPlain-from_ready}
-use Rattle.sop_cook.proofs.SerialCookLemmas.{cook_visits}
-
--- what a node made, its outcome tells
-pub tells_made : (x : ℕ) (outcome : Result Geo fault.Fault) (made : Result Geo CookStop) (answer : Result Geo CookEnd) → TellsMade outcome made
-    → ((g : Geo) → made ≡ Ok g → answer ≡ Ok g) → ((f : fault.Fault) → made ≡ Err (stop.Fault f) → answer ≡ Err (end.Fault x f)) → (made ≡ Err stop.Memory → answer ≡ Err end.Memory) → Tells (at_node x outcome) answer
-tells_made x outcome (Ok g) answer h ok err memory = subst (Tells (at_node x outcome)) (sym (ok g refl)) (ap (at_node x) h)
-tells_made x outcome (Err (stop.Fault f)) answer h ok err memory = subst (Tells (at_node x outcome)) (sym (err f refl)) (ap (at_node x) h)
-tells_made x outcome (Err stop.Memory) answer h ok err memory = subst (Tells (at_node x outcome)) (sym (memory refl)) tt
+use Rattle.sop_cook.specs.Made.{made, is_built}
+use Rattle.sop_cook.specs.Visit.{Outcome, at_node, Visit, ask, ask_all, visit_if, visit}
+use Rattle.sop_cook.specs.SerialCook.{run, cook_of}
+use Rattle.sop_cook.specs.Keeping.{Tells, GoesOn, EndsSo}
+use Rattle.sop_cook.proofs.SerialCookLemmas.{cook_runs_visit}
 
 -- the cook of a node is what its visit tells
-pub told_visit : (files : FileMap) (nodes : List Node) (x : ℕ) (n : Node) → Within (used_sources nodes) (length nodes) x → node_of nodes x ≡ Some n → (answer : Result Geo CookEnd)
-    → Tells (visit_type (cook_of files nodes) files x n n.node_type) answer → Tells (cook_of files nodes x) answer
-told_visit files nodes x n within found answer h =
-    subst (λ outcome. Tells outcome answer) (sym (cook_visits files nodes x within ∙ ap (visit (cook_of files nodes) files x) found)) h
+pub told_visit : (files : FileMap) (nodes : List Node) (x : ℕ) (n : Node) (answer : Result Geo CookEnd) → Within (used_sources nodes) (length nodes) x → node_of nodes x ≡ Some n
+    → Tells (run (cook_of files nodes) (visit files x (Some n))) answer → Tells (cook_of files nodes x) answer
+told_visit files nodes x n answer within found h =
+    subst (λ outcome. Tells outcome answer) (sym (cook_runs_visit files nodes x within ∙ ap (λ f. run (cook_of files nodes) (visit files x f)) found)) h
 
--- the geometries so far were merged
-pub record Merged (gs : List Geo) (into : Geo) : Type 0 where
-  pub merge : merged gs ≡ into
-  pub plain : All IsPlain gs
-  pub ready : IsReady into
+known : (P : Node → Type 0) (found : Option Node) (n : Node) → found ≡ Some n → IfSome found P → P n
+known P found n is h = subst (λ f. IfSome f P) is h
 
-pub merged_more : (gs : List Geo) (into now geo : Geo) → Merged gs into → IsReady geo → now ≡ plain_append into geo → IsReady now → Merged (gs ++ geo ∷ []) now
-merged_more gs into now geo m ready is fine =
-    let plain = IsPlain-from_ready geo ready in
-    record {
-      merge = merged-push gs geo m.plain plain ∙ ap (λ a. plain_append a geo) m.merge ∙ sym is;
-      plain = All-append IsPlain gs (geo ∷ []) m.plain (All-cons IsPlain geo [] plain (All-nil IsPlain));
-      ready = fine;
-    }
+-- the inputs were asked for, and the node made this of them
+pub visit_made : (files : FileMap) (nodes : List Node) (x : ℕ) (t : NodeType) (inputs : List (Option Geo)) (answer : Result Geo CookEnd) → Within (used_sources nodes) (length nodes) x
+    → option_map (λ n. n.node_type) (node_of nodes x) ≡ Some t → is_built t ≡ true → IfSome (node_of nodes x) (λ n. GoesOn (cook_of files nodes) (ask_all x (sockets_of n)) inputs)
+    → ((n : Node) → node_of nodes x ≡ Some n → Tells (at_node x (made files n inputs)) answer) → Tells (cook_of files nodes x) answer
+visit_made files nodes x t inputs answer within typed built on told =
+    let r = read_node nodes x (λ n. n.node_type) t typed in
+    let go = cook_of files nodes in
+    told_visit files nodes x r.node answer within r.found
+    (subst (λ outcome. Tells outcome answer)
+    (sym (ap (λ b. run go (visit_if b files x r.node)) (ap is_built r.is ∙ built)
+    ∙ known (λ n. GoesOn go (ask_all x (sockets_of n)) inputs) (node_of nodes x) r.node r.found on (λ inputs. Visit.Give (at_node x (made files r.node inputs)))))
+    (told r.node r.found))
 
--- all were merged
-pub merged_all : (gs : List Geo) (into : Geo) → Merged gs into → merge_geo gs ≡ Ok into
-merged_all gs into m =
-    let fitting : fits (merged gs) ≡ true = ap fits m.merge ∙ fits-true into m.ready.fits in
-    ap (λ b. if b then Ok (merged gs) else Err variant.Limit) fitting ∙ ap Ok m.merge
+told_end : (go : ℕ → Outcome) (x : ℕ) (sockets : List Socket) (more : List (Option Geo) → Visit) (e : CookEnd) → EndsSo go (ask_all x sockets) e → Tells (run go (ask_all x sockets more)) (Err e)
+told_end go x sockets more (end.Fault y f) ends = ends more
+told_end go x sockets more end.Memory ends = tt
 
-points_in-append : (gs hs : List Geo) → points_in (gs ++ hs) ≡ points_in gs + points_in hs
-points_in-append [] hs = omega arith
-points_in-append (g ∷ gs) hs = let rest = points_in-append gs hs in omega (arith, rest)
+-- an input gave no geometry
+pub visit_failed : (files : FileMap) (nodes : List Node) (x : ℕ) (t : NodeType) (e : CookEnd) → Within (used_sources nodes) (length nodes) x → option_map (λ n. n.node_type) (node_of nodes x) ≡ Some t → is_built t ≡ true
+    → IfSome (node_of nodes x) (λ n. EndsSo (cook_of files nodes) (ask_all x (sockets_of n)) e) → Tells (cook_of files nodes x) (Err e)
+visit_failed files nodes x t e within typed built ends =
+    let r = read_node nodes x (λ n. n.node_type) t typed in
+    let go = cook_of files nodes in
+    told_visit files nodes x r.node (Err e) within r.found
+    (subst (λ b. Tells (run go (visit_if b files x r.node)) (Err e)) (sym (ap is_built r.is ∙ built))
+    (told_end go x (sockets_of r.node) (λ inputs. Visit.Give (at_node x (made files r.node inputs))) e (known (λ n. EndsSo go (ask_all x (sockets_of n)) e) (node_of nodes x) r.node r.found ends)))
 
-prims_in-append : (gs hs : List Geo) → prims_in (gs ++ hs) ≡ prims_in gs + prims_in hs
-prims_in-append [] hs = omega arith
-prims_in-append (g ∷ gs) hs = let rest = prims_in-append gs hs in omega (arith, rest)
+behind : {A : Type 0} (more : List A → Visit) (xs : List A) (x : A) → ◌≡◌ {A = List A → Visit} (λ ys. more (xs ++ x ∷ ys)) (λ ys. more ((xs ++ x ∷ []) ++ ys))
+behind more xs x = λ i ys. more (sym (append_assoc xs (x ∷ []) ys) i)
 
-vertices_in-append : (gs hs : List Geo) → vertices_in (gs ++ hs) ≡ vertices_in gs + vertices_in hs
-vertices_in-append [] hs = omega arith
-vertices_in-append (g ∷ gs) hs = let rest = vertices_in-append gs hs in omega (arith, rest)
+at_end : {A : Type 0} (more : List A → Visit) (xs : List A) → more (xs ++ []) ≡ more xs
+at_end more xs = ap more (append-nil xs)
 
-over_more : (p q v points prims vertices : ℕ) → p ≤ points → q ≤ prims → v ≤ vertices → is_over_limits p q v ≡ true → is_over_limits points prims vertices ≡ true
-over_more p q v points prims vertices hp hq hv over = grind (arith, common_steps)
+module _ (go : ℕ → Outcome) (x first : ℕ) (is_needed : Bool) (wires : List (Option ℕ)) where
+  -- the first inputs were asked for, and gave these
+  pub record Asked (i : ℕ) (inputs : List (Option Geo)) : Type 0 where
+    pub so_far : (more : List (Option Geo) → Visit)
+        → run go (ask_all x (sockets_from first is_needed wires) more) ≡ run go (ask_all x (sockets_from (first + i) is_needed (drop i wires)) (λ rest. more (inputs ++ rest)))
 
-over_unfit : (points prims vertices : ℕ) (d e f h i : Bool) → is_over_limits points prims vertices ≡ true
-    → nat_le points 1000000 && nat_le prims 1000000 && nat_le vertices 4000000 && d && e && f && h && i ≡ false
-over_unfit points prims vertices d e f h i over = grind (arith, common_steps)
+  pub asked_none : (inputs : List (Option Geo)) → inputs ≡ [] → Asked 0 inputs
+  asked_none inputs none = subst (Asked 0) (sym none) (record {
+    so_far = λ more. let same : first ≡ first + 0 = omega arith in ap (λ k. run go (ask_all x (sockets_from k is_needed wires) more)) same;
+  })
 
-unfit : (g : Geo) → is_over_limits (length g.points) (length g.prims) (length (corners_of g.prims)) ≡ true → fits g ≡ false
-unfit g over = over_unfit (length g.points) (length g.prims) (length (corners_of g.prims)) (class_fits g.detail) (class_fits g.prim) (class_fits g.point) (class_fits g.vertex) (nat_le (geo_weight g) 40000000) over
+  next : (i : ℕ) (inputs : List (Option Geo)) (wire d : Option ℕ) → i < length wires → get_or wires i d ≡ wire → Asked i inputs → (more : List (Option Geo) → Visit)
+      → run go (ask_all x (sockets_from first is_needed wires) more)
+      ≡ run go (ask x (first + i) is_needed wire (λ g. ask_all x (sockets_from (suc (first + i)) is_needed (drop (i + 1) wires)) (λ rest. more (inputs ++ g ∷ rest))))
+  next i inputs wire d lt here asked more =
+      asked.so_far more
+      ∙ ap (λ l. run go (ask_all x (sockets_from (first + i) is_needed l) (λ rest. more (inputs ++ rest)))) (drop_more wires i d lt ∙ ap (λ w. w ∷ drop (i + 1) wires) here)
 
--- where the next geometry has too many elements, the whole merge has
-over_merge : (gs hs : List Geo) (g into : Geo) → merged gs ≡ into → are_over into g ≡ true → fits (merged (gs ++ g ∷ hs)) ≡ false
-over_merge gs hs g into is over =
-    let points = length-merged_points (gs ++ g ∷ hs) ∙ points_in-append gs (g ∷ hs) in
-    let prims = length-merged_prims (gs ++ g ∷ hs) ∙ prims_in-append gs (g ∷ hs) in
-    let corners = length-merged_corners (gs ++ g ∷ hs) ∙ vertices_in-append gs (g ∷ hs) in
-    let own_points = sym (ap (λ (a : Geo). length a.points) is) ∙ length-merged_points gs in
-    let own_prims = sym (ap (λ (a : Geo). length a.prims) is) ∙ length-merged_prims gs in
-    let own_corners = sym (ap (λ (a : Geo). length (corners_of a.prims)) is) ∙ length-merged_corners gs in
-    unfit (merged (gs ++ g ∷ hs))
-    (over_more (length into.points + length g.points) (length into.prims + length g.prims) (length (corners_of into.prims) + length (corners_of g.prims))
-    (length (merged (gs ++ g ∷ hs)).points) (length (merged (gs ++ g ∷ hs)).prims) (length (corners_of (merged (gs ++ g ∷ hs)).prims))
-    (omega (arith, points, own_points)) (omega (arith, prims, own_prims)) (omega (arith, corners, own_corners)) over)
+  pub asked_more : (i : ℕ) (inputs now : List (Option Geo)) (wire d : Option ℕ) (g : Option Geo) → i < length wires → get_or wires i d ≡ wire → Asked i inputs
+      → GoesOn go (ask x (first + i) is_needed wire) g → now ≡ inputs ++ g ∷ [] → Asked (i + 1) now
+  asked_more i inputs now wire d g lt here asked on is = subst (Asked (i + 1)) (sym is) (record {
+    so_far = λ more.
+        let turned : suc (first + i) ≡ first + (i + 1) = omega arith in
+        next i inputs wire d lt here asked more
+        ∙ on (λ g. ask_all x (sockets_from (suc (first + i)) is_needed (drop (i + 1) wires)) (λ rest. more (inputs ++ g ∷ rest)))
+        ∙ ap (λ m. run go (ask_all x (sockets_from (suc (first + i)) is_needed (drop (i + 1) wires)) m)) (behind more inputs g)
+        ∙ ap (λ k. run go (ask_all x (sockets_from k is_needed (drop (i + 1) wires)) (λ rest. more ((inputs ++ g ∷ []) ++ rest)))) turned;
+  })
 
-pub merged_over : (all gs hs : List Geo) (g into : Geo) → all ≡ gs ++ g ∷ hs → Merged gs into → (e : CookStop)
-    → ((f : fault.Fault) → e ≡ stop.Fault f → (f ≡ variant.Limit) × (are_over into g ≡ true)) → TellsMade (merge_geo all) (Err e)
-merged_over all gs hs g into is m (stop.Fault f) over =
-    let told = over f refl in
-    ap merge_geo is ∙ ap (λ b. if b then Ok (merged (gs ++ g ∷ hs)) else Err variant.Limit) (over_merge gs hs g into m.merge told.1) ∙ ap Err (sym told.0)
-merged_over all gs hs g into is m stop.Memory over = tt
+  pub asked_failed : (i : ℕ) (inputs : List (Option Geo)) (wire d : Option ℕ) (e : CookEnd) → i < length wires → get_or wires i d ≡ wire → Asked i inputs → EndsSo go (ask x (first + i) is_needed wire) e
+      → EndsSo go (ask_all x (sockets_from first is_needed wires)) e
+  asked_failed i inputs wire d (end.Fault y f) lt here asked ends = λ more.
+      next i inputs wire d lt here asked more ∙ ends (λ g. ask_all x (sockets_from (suc (first + i)) is_needed (drop (i + 1) wires)) (λ rest. more (inputs ++ g ∷ rest)))
+  asked_failed i inputs wire d end.Memory lt here asked ends = tt
 
--- the sources of the first wires gave these geometries
-pub record Gathered (go : ℕ → Outcome) (wires : List (Option ℕ)) (i : ℕ) (geos : List Geo) : Type 0 where
-  pub so_far : gathered go (take i wires) ≡ Ok geos
-  pub ready : All IsReady geos
-
-pub gathered_none : (go : ℕ → Outcome) (wires : List (Option ℕ)) (geos : List Geo) → geos ≡ [] → Gathered go wires 0 geos
-gathered_none go wires geos is = record { so_far = ap Ok (sym is); ready = subst (All IsReady) (sym is) (All-nil IsReady) }
-
-wire_read : (wires : List (Option ℕ)) (i : ℕ) (w : Option ℕ) → i < length wires → wire_at wires i ≡ w → get_or wires i None ≡ w
-wire_read [] i w lt h = absurd (omega (arith, lt))
-wire_read (v ∷ wires) zero w lt h = h
-wire_read (v ∷ wires) (suc i) w lt h = wire_read wires i w (omega (arith, lt)) h
-
-past_end : (wires : List (Option ℕ)) (i : ℕ) → length wires ≤ i → take (i + 1) wires ≡ take i wires
-past_end wires i past = grind (arith, common_steps)
-
--- the next input isn't wired
-pub gathered_past : (go : ℕ → Outcome) (wires : List (Option ℕ)) (i : ℕ) (geos : List Geo) → wire_at wires i ≡ None → Gathered go wires i geos → Gathered go wires (i + 1) geos
-gathered_past go wires i geos here g = record { so_far = step (nat_le (length wires) i) refl; ready = g.ready }
-  where
-    step : (b : Bool) → nat_le (length wires) i ≡ b → gathered go (take (i + 1) wires) ≡ Ok geos
-    step true past = ap (gathered go) (past_end wires i (grind arith)) ∙ g.so_far
-    step false more =
-        let lt : i < length wires = grind arith in
-        ap (gathered go) (take_more wires i None lt ∙ ap (λ w. take i wires ++ w ∷ []) (wire_read wires i None lt here)) ∙ gathered-skip go (take i wires) geos g.so_far
-
-wired_within : (wires : List (Option ℕ)) (i source : ℕ) → wire_at wires i ≡ Some source → i < length wires
-wired_within [] i source h = let no : ⊥ = cc in absurd no
-wired_within (w ∷ wires) zero source h = omega arith
-wired_within (w ∷ wires) (suc i) source h = let rest = wired_within wires i source h in omega (arith, rest)
-
--- the next input's source gave a geometry
-pub gathered_more : (go : ℕ → Outcome) (wires : List (Option ℕ)) (i source : ℕ) (geos now : List Geo) (geo : Geo) → wire_at wires i ≡ Some source → go source ≡ Ok geo → IsReady geo
-    → now ≡ geos ++ geo ∷ [] → Gathered go wires i geos → Gathered go wires (i + 1) now
-gathered_more go wires i source geos now geo here gave ready is g =
-    let lt = wired_within wires i source here in
-    let more = take_more wires i None lt ∙ ap (λ w. take i wires ++ w ∷ []) (wire_read wires i (Some source) lt here) in
-    record {
-      so_far = ap (gathered go) more ∙ gathered-push go (take i wires) source geos geo g.so_far gave ∙ ap Ok (sym is);
-      ready = subst (All IsReady) (sym is) (All-append IsReady geos (geo ∷ []) g.ready (All-cons IsReady geo [] ready (All-nil IsReady)));
-    }
-
--- all inputs were gathered
-pub gathered_all : (go : ℕ → Outcome) (wires : List (Option ℕ)) (i : ℕ) (geos : List Geo) → length wires ≤ i → Gathered go wires i geos → gathered go wires ≡ Ok geos
-gathered_all go wires i geos all g = let whole : take i wires ≡ wires = grind (arith, common_steps) in ap (gathered go) (sym whole) ∙ g.so_far
-
-failed_through : (gs : List Geo) (f : Failure) (rest : Result (List Geo) Failure) → after gs (then_with (Err f) (λ g. then_with rest (λ hs. Ok (g ∷ hs)))) ≡ Err f
-failed_through gs f rest = refl
-
--- the next input's source ended without a geometry
-pub gathered_failed : (go : ℕ → Outcome) (wires : List (Option ℕ)) (i source : ℕ) (geos : List Geo) (e : CookEnd) → wire_at wires i ≡ Some source → Tells (go source) (Err e) → Gathered go wires i geos
-    → TellsAll (gathered go wires) (Err e)
-gathered_failed go wires i source geos (end.Fault x f) here told g =
-    let lt = wired_within wires i source here in
-    let split : wires ≡ take i wires ++ Some source ∷ drop (i + 1) wires =
-    sym (take-append-drop i wires) ∙ ap (λ l. take i wires ++ l) (drop_more wires i None lt) ∙ ap (λ v. take i wires ++ v ∷ drop (i + 1) wires) (wire_read wires i (Some source) lt here) in
-    ap (gathered go) split
-    ∙ gathered-append go (take i wires) (Some source ∷ drop (i + 1) wires)
-    ∙ ap (λ r. then_with r (λ gs. after gs (gathered go (Some source ∷ drop (i + 1) wires)))) g.so_far
-    ∙ ap (λ r. after geos (then_with r (λ h. then_with (gathered go (drop (i + 1) wires)) (λ hs. Ok (h ∷ hs))))) told
-gathered_failed go wires i source geos end.Memory here told g = tt
-
--- what a merge tells, once its inputs were gathered
-pub tells_merge : (go : ℕ → Outcome) (x : ℕ) (wires : List (Option ℕ)) (geos : List Geo) (answer : Result Geo CookEnd) → gathered go wires ≡ Ok geos → Tells (at_node x (merge_geo geos)) answer
-    → Tells (merge_outcome go x wires) answer
-tells_merge go x wires geos answer got h = subst (λ r. Tells (then_with r (λ gs. at_node x (merge_geo gs))) answer) (sym got) h
-
-pub tells_unmerged : (go : ℕ → Outcome) (x : ℕ) (wires : List (Option ℕ)) (e : CookEnd) → TellsAll (gathered go wires) (Err e) → Tells (merge_outcome go x wires) (Err e)
-tells_unmerged go x wires (end.Fault y f) h = ap (λ r. then_with r (λ gs. at_node x (merge_geo gs))) h
-tells_unmerged go x wires end.Memory h = tt
-
--- a list, at an item
-pub split_at : {X : Type 0} (all so_far : List X) (x : X) → so_far ≡ take (length so_far) all → length so_far < length all → x ≡ get_or all (length so_far) x → all ≡ so_far ++ x ∷ drop (length so_far + 1) all
-split_at all so_far x is lt here =
-    sym (take-append-drop (length so_far) all) ∙ ap (λ l. l ++ drop (length so_far) all) (sym is)
-    ∙ ap (λ l. so_far ++ l) (drop_more all (length so_far) x lt) ∙ ap (λ y. so_far ++ y ∷ drop (length so_far + 1) all) (sym here)
-
--- a node of a known type
-pub visit_known : (go : ℕ → Outcome) (files : FileMap) (x : ℕ) (n : Node) (node_type : NodeType) (answer : Result Geo CookEnd) → n.node_type ≡ node_type → Tells (visit_type go files x n node_type) answer → Tells (visit_type go files x n n.node_type) answer
-visit_known go files x n node_type answer is h = subst (λ k. Tells (visit_type go files x n k) answer) (sym is) h
+  pub asked_all : (i : ℕ) (inputs : List (Option Geo)) → length wires ≤ i → Asked i inputs → GoesOn go (ask_all x (sockets_from first is_needed wires)) inputs
+  asked_all i inputs all asked = λ more.
+      let none : drop i wires ≡ [] = grind (arith, common_steps) in
+      asked.so_far more ∙ ap (λ l. run go (ask_all x (sockets_from (first + i) is_needed l) (λ rest. more (inputs ++ rest)))) none ∙ ap (λ v. run go v) (at_end more inputs)

@@ -1,7 +1,10 @@
+mod Examples
+pub mod LoadsLemmas
+pub mod VisitLemmas
+pub mod SerialCookLemmas
 pub mod MergeLemmas
 pub mod ReadyLemmas
-pub mod GatherLemmas
-pub mod LoadsLemmas
+pub mod MergeSteps
 pub mod KeptLemmas
-pub mod SerialCookLemmas
 pub mod CookLemmas
+pub mod CookingLemmas

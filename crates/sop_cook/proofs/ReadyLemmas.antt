@@ -1,5 +1,5 @@
 -- Ready geometries, one behind another.
-use Rattle.std.proofs.Common.{◌≡◌, false, ℕ, ◌+◌, ◌<◌, ◌≤◌, ◌^◌, List, [], ◌∷◌, ◌++◌, length, map, take, drop, refl, sym, ◌∙◌, ap, subst, arith, get_or, set}
+use Rattle.std.proofs.Common.{◌≡◌, false, ℕ, ◌+◌, ◌<◌, ◌≤◌, ◌^◌, List, [], ◌∷◌, ◌++◌, length, map, take, drop, sym, ◌∙◌, ap, subst, arith, get_or, set}
 use Rattle.std.specs.Prelude.{All}
 use Rattle.std.proofs.lemmas.List.{length-append, length-map, get_or-drop, take_more, take_more_set, drop_more, drop-set-lt, length-drop, map-append}
 use Rattle.std.proofs.lemmas.List.Elements.{All-nil, All-cons, All-append, All-map, All-weaker}
@@ -7,31 +7,25 @@ use Rattle.std.proofs.lemmas.Grind.{common_steps}
 use Rattle.sop_model.specs.declared.geo.Geo.{Geo}
 use Rattle.sop_model.specs.declared.geo.Corner.{Corner}
 use Rattle.sop_model.specs.declared.geo.Primitive.{Primitive}
-use Rattle.sop_model.specs.declared.geo.HeadSet.{HeadSet}
-use Rattle.sop_model.specs.declared.class.Class.{Class}
-use Rattle.sop_model.specs.declared.class.Class.TheVariants.{Detail, Prim, Point, Vertex}
+use Rattle.sop_model.specs.declared.class.Class.TheVariants.{Prim}
 use Rattle.sop_model.specs.Vertices.{size_of, corners_of}
-use Rattle.sop_model.specs.Geometry.{heads_of, empty_geo, IsWithin, Fits, IsReadable}
+use Rattle.sop_model.specs.Limits.{most_points, most_prims, most_vertices}
+use Rattle.sop_model.specs.Geometry.{empty_geo, IsWithin, HasOnlyPosition, IsReadable}
 use Rattle.sop_model.specs.Plain.{IsPlain, plain_append, shifted_prim, shifted_corner}
 use Rattle.sop_model.proofs.PlainLemmas.{IsPlain-from_sound}
 use Rattle.sop_model.proofs.PlainMerge.{IsPlain-append, IsPlain-empty_geo, IsSound-append, IsSound-empty_geo, corners_of-append}
 use Rattle.sop_model.proofs.RowLists.{All-left, All-right}
 use Rattle.sop_cook.specs.Keeping.{IsReady, is_over_limits, are_over}
-use Rattle.sop_cook.proofs.MergeLemmas.{geo_weight-plain}
+use Rattle.sop_model.proofs.LimitsLemmas.{within_points, fits_within, readable_of}
+use Rattle.sop_model.proofs.PlainLimits.{IsWithin-from_only, Fits-from_plain}
 
 pub IsPlain-from_ready : (g : Geo) → IsReady g → IsPlain g
 IsPlain-from_ready g ready = IsPlain-from_sound g ready.good.sound ready.position
 
 pub IsReadable-from_ready : (g : Geo) → IsReady g → IsReadable g
-IsReadable-from_ready g ready = record { sound = ready.good.sound; within = ready.fits.within }
+IsReadable-from_ready g ready = readable_of g ready.good ready.fits
 
-heads_kept : (a b : Geo) (class : Class) → heads_of (plain_append a b) class ≡ heads_of a class
-heads_kept a b Detail = refl
-heads_kept a b Prim = refl
-heads_kept a b Point = refl
-heads_kept a b Vertex = refl
-
-under_limits : (points prims vertices : ℕ) → is_over_limits points prims vertices ≡ false → (points ≤ 1000000) × (prims ≤ 1000000) × (vertices ≤ 4000000)
+under_limits : (points prims vertices : ℕ) → is_over_limits points prims vertices ≡ false → (points ≤ most_points) × (prims ≤ most_prims) × (vertices ≤ most_vertices)
 under_limits points prims vertices h = grind (arith, common_steps)
 
 length-appended_prims : (a b : Geo) → length (plain_append a b).prims ≡ length a.prims + length b.prims
@@ -43,22 +37,13 @@ length-appended_corners a b =
     ∙ length-append (corners_of a.prims) (map (shifted_corner (length a.points)) (corners_of b.prims))
     ∙ ap (λ n. length (corners_of a.prims) + n) (length-map (corners_of b.prims) (shifted_corner (length a.points)))
 
-within_appended : (a b : Geo) → IsWithin a → are_over a b ≡ false → IsWithin (plain_append a b)
-within_appended a b own under =
+within_appended : (a b : Geo) → HasOnlyPosition (plain_append a b) → are_over a b ≡ false → IsWithin (plain_append a b)
+within_appended a b only under =
     let limits = under_limits (length a.points + length b.points) (length a.prims + length b.prims) (length (corners_of a.prims) + length (corners_of b.prims)) under in
-    record {
-      points = subst (λ n. n ≤ 1000000) (sym (length-append a.points b.points)) limits.0;
-      prims = subst (λ n. n ≤ 1000000) (sym (length-appended_prims a b)) limits.1;
-      vertices = subst (λ n. n ≤ 4000000) (sym (length-appended_corners a b)) limits.2;
-      heads = λ class. subst (λ (set : HeadSet). length set.heads ≤ 64) (sym (heads_kept a b class)) (own.heads class);
-      groups = λ class. subst (λ (set : HeadSet). length set.groups ≤ 256) (sym (heads_kept a b class)) (own.groups class);
-    }
-
-fits_plain : (g : Geo) → IsPlain g → IsWithin g → Fits g
-fits_plain g plain within =
-    let weight = geo_weight-plain g plain in
-    let points = within.points in
-    record { within = within; weight = omega (arith, weight, points) }
+    IsWithin-from_only (plain_append a b) only
+    (subst (λ n. n ≤ most_points) (sym (length-append a.points b.points)) limits.0)
+    (subst (λ n. n ≤ most_prims) (sym (length-appended_prims a b)) limits.1)
+    (subst (λ n. n ≤ most_vertices) (sym (length-appended_corners a b)) limits.2)
 
 sizes_kept : (before : ℕ) (prims : List Primitive) → All (λ p. 0 < size_of p) prims → All (λ p. 0 < size_of p) (map (shifted_prim before) prims)
 sizes_kept before prims all =
@@ -73,28 +58,16 @@ IsReady-append a b own more under =
         sound = IsSound-append a b own.good.sound own.position more.good.sound more.position;
         corners = All-append (λ p. 0 < size_of p) a.prims (map (shifted_prim (length a.points)) b.prims) own.good.corners (sizes_kept (length a.points) b.prims more.good.corners);
       };
-      fits = fits_plain (plain_append a b) plain (within_appended a b own.fits.within under);
+      fits = Fits-from_plain (plain_append a b) plain (within_appended a b plain.only under);
       position = plain.only;
     }
 
-few_heads : (class : Class) → length (heads_of empty_geo class).heads ≤ 64
-few_heads Detail = omega arith
-few_heads Prim = omega arith
-few_heads Point = omega arith
-few_heads Vertex = omega arith
-
-no_groups : (class : Class) → length (heads_of empty_geo class).groups ≤ 256
-no_groups Detail = omega arith
-no_groups Prim = omega arith
-no_groups Point = omega arith
-no_groups Vertex = omega arith
-
 pub IsReady-empty_geo : IsReady empty_geo
 IsReady-empty_geo =
-    let within : IsWithin empty_geo = record { points = omega arith; prims = omega arith; vertices = omega arith; heads = few_heads; groups = no_groups } in
+    let within : IsWithin empty_geo = IsWithin-from_only empty_geo IsPlain-empty_geo.only (omega arith) (omega arith) (omega arith) in
     record {
       good = record { sound = IsSound-empty_geo; corners = All-nil (λ p. 0 < size_of p) };
-      fits = fits_plain empty_geo IsPlain-empty_geo within;
+      fits = Fits-from_plain empty_geo IsPlain-empty_geo within;
       position = IsPlain-empty_geo.only;
     }
 
@@ -105,9 +78,9 @@ All-corners P (p ∷ prims) all =
     All-cons (λ p. All P p.corners) p prims (All-left P p.corners (corners_of prims) all) (All-corners P prims (All-right P p.corners (corners_of prims) all))
 
 -- the points of vertices behind others stay numbers of 32 bits
-pub small_points : (before : ℕ) (b : Geo) → before ≤ 1000000 → IsReady b → All (λ p. All (λ c. before + c.point < 2 ^ 32) p.corners) b.prims
+pub small_points : (before : ℕ) (b : Geo) → before ≤ most_points → IsReady b → All (λ p. All (λ c. before + c.point < 2 ^ 32) p.corners) b.prims
 small_points before b few ready =
-    let points = ready.fits.within.points in
+    let points = within_points (fits_within ready.fits) in
     All-corners (λ c. before + c.point < 2 ^ 32) b.prims
     (All-weaker (λ c. c.point < length b.points) (λ c. before + c.point < 2 ^ 32) (λ c lt. omega (arith, lt, points, few)) (corners_of b.prims) ready.good.sound.points)
 

@@ -1,104 +1,193 @@
--- The rule of the cook, which speaks of no bound, and when two cooks are the same.
-use Rattle.std.proofs.Common.{◌≡◌, ap, refl, ◌∙◌, subst, ℕ, zero, suc, List, [], ◌∷◌, length}
-use Rattle.std.specs.Prelude.{Option, None, Some, Result, Ok, Err, Contains}
+-- The rule of the cook, which speaks of no bound, and what holds of every cook.
+use Rattle.std.proofs.Common.{◌≡◌, refl, ◌∙◌, ap, subst, ℕ, zero, suc, List, [], ◌∷◌, length, Bool, true, false, if◌then◌else◌}
+use Rattle.std.specs.Prelude.{Option, None, Some, Result, Ok, Err, Contains, IsTrue, ⊤}
 use Rattle.sop_model.specs.declared.geo.Geo.{Geo}
 use Rattle.sop_model.specs.declared.fault.Fault.{Fault}
 use Rattle.sop_model.specs.declared.fault.Fault.TheVariants as fault
-use Rattle.sop_net.specs.Graph.{Within}
-use Rattle.sop_net.proofs.UsedLemmas.{first_is, further, wired_at}
+use Rattle.sop_model.specs.Faults.{has_named_node}
+use Rattle.sop_model.specs.Geometry.{fits}
+use Rattle.sop_model.specs.Merge.{merged}
+use Rattle.geo_text.specs.ObjReading.{obj_geo, Refusal}
+use Rattle.geo_text.specs.ObjForm.{has_first_form}
+use Rattle.sop_net.specs.Graph.{Steps, Reaches, Within}
 use Rattle.sop_net.specs.declared.node_type.NodeType.{NodeType}
 use Rattle.sop_net.specs.declared.node_type.NodeType.TheVariants as type
 use Rattle.sop_net.specs.declared.node.Node.{Node}
-use Rattle.sop_net.specs.Network.{node_of, wired, wire_at, parm_at, switch_input, used_wires, wires_used_by, used_sources, IsLive}
+use Rattle.sop_net.specs.Network.{node_of, parm_at, used_sources, IsLive}
+use Rattle.sop_net.specs.Needs.{file_of_node, file_of_type}
+use Rattle.sop_cook.specs.declared.loaded.LoadedFile.{LoadedFile}
+use Rattle.sop_cook.specs.declared.loaded.LoadedFile.TheVariants.{Bytes, Missing, TooLong}
 use Rattle.sop_cook.specs.Loads.{FileMap}
-use Rattle.sop_cook.specs.SerialCook.{Outcome, Failure, failed, then_with, at_node, file_geo, merge_geo, gathered, given, merge_outcome, visit_type, visit, cooked, cook_of}
+use Rattle.sop_cook.specs.Made.{unrefused, file_geo, merge_geo, given, only, made_by, made}
+use Rattle.sop_cook.specs.Visit.{Outcome, Failure, failed, at_node, Visit, visit}
+use Rattle.sop_cook.specs.SerialCook.{run, cooked, cook_of}
+use Rattle.sop_cook.specs.Laws.{Asks, IsUsedWire, AreAlike, IsMissing}
+use Rattle.sop_cook.proofs.VisitLemmas.{visit_asks, Ends, visit_ends, run_ends, same_run, same_visit}
 
-same_gathered : (f g : ℕ → Outcome) (wires : List (Option ℕ)) → ((source : ℕ) → Contains (wired wires) source → f source ≡ g source) → gathered f wires ≡ gathered g wires
-same_gathered f g [] same = refl
-same_gathered f g (None ∷ wires) same = same_gathered f g wires same
-same_gathered f g (Some source ∷ wires) same =
-    rw (same source (first_is source (wired wires)), same_gathered f g wires (λ s h. same s (further source s (wired wires) h))) refl
+-- what is asked of a visit, where it holds of each used wire
+asks_weaker : (P Q : ℕ → ℕ → Type 0) (v : Visit) → ((input source : ℕ) → P input source → Q input source) → Asks P v → Asks Q v
+asks_weaker P Q (Visit.Give outcome) weaker h = tt
+asks_weaker P Q (Visit.Ask input source more) weaker h = (weaker input source h.0, λ g. asks_weaker P Q (more g) weaker (h.1 g))
 
-same_given : (f g : ℕ → Outcome) (x input : ℕ) (wire : Option ℕ) → ((source : ℕ) → wire ≡ Some source → f source ≡ g source) → given f x input wire ≡ given g x input wire
-same_given f g x input None same = refl
-same_given f g x input (Some source) same = same source refl
-
-same_visit_type : (f g : ℕ → Outcome) (files others : FileMap) (x : ℕ) (n : Node) (node_type : NodeType) → (node_type ≡ type.File → files (parm_at n.parms 0) ≡ others (parm_at n.parms 0))
-    → ((source : ℕ) → Contains (wired (wires_used_by node_type n)) source → f source ≡ g source) → visit_type f files x n node_type ≡ visit_type g others x n node_type
-same_visit_type f g files others x n type.File file same = ap (λ load. at_node x (file_geo load)) (file refl)
-same_visit_type f g files others x n type.Merge file same = ap (λ gs. then_with gs (λ inputs. at_node x (merge_geo inputs))) (same_gathered f g n.wires same)
-same_visit_type f g files others x n type.Null file same = same_given f g x 0 (wire_at n.wires 0) (λ source h. same source (wired_at n.wires 0 source h))
-same_visit_type f g files others x n type.Switch file same =
-    same_given f g x (switch_input n) (wire_at n.wires (switch_input n)) (λ source h. same source (wired_at (wire_at n.wires (switch_input n) ∷ []) 0 source h))
-same_visit_type f g files others x n other file same = refl
-
--- a node gives the same where its file and its sources do
-pub same_visit : (f g : ℕ → Outcome) (files others : FileMap) (x : ℕ) (found : Option Node) → ((n : Node) → found ≡ Some n → n.node_type ≡ type.File → files (parm_at n.parms 0) ≡ others (parm_at n.parms 0))
-    → ((source : ℕ) → Contains (wired (used_wires found)) source → f source ≡ g source) → visit f files x found ≡ visit g others x found
-same_visit f g files others x None file same = refl
-same_visit f g files others x (Some n) file same = same_visit_type f g files others x n n.node_type (file n refl) same
+asks_sources : (P : ℕ → Type 0) (files : FileMap) (nodes : List Node) (x : ℕ) → ((source : ℕ) → Contains (used_sources nodes x) source → P source) → Asks (λ input source. P source) (visit files x (node_of nodes x))
+asks_sources P files nodes x each = asks_weaker (IsUsedWire nodes x) (λ input source. P source) (visit files x (node_of nodes x)) (λ input source wire. each source wire.used) (visit_asks files nodes x)
 
 -- where each way up ends within the bound, one more changes nothing
 one_more : (files : FileMap) (nodes : List Node) (depth x : ℕ) → Within (used_sources nodes) depth x → cooked depth files nodes x ≡ cooked (suc depth) files nodes x
 one_more files nodes zero x within = absurd within
 one_more files nodes (suc depth) x within =
-    same_visit (cooked depth files nodes) (cooked (suc depth) files nodes) files files x (node_of nodes x)
-    (λ n found node_type. refl)
-    (λ source used. one_more files nodes depth source (within source used))
+    same_run (cooked depth files nodes) (cooked (suc depth) files nodes) (visit files x (node_of nodes x))
+    (asks_sources (λ source. cooked depth files nodes source ≡ cooked (suc depth) files nodes source) files nodes x (λ source used. one_more files nodes depth source (within source used)))
 
 -- the rule of the cook
-pub cook_visits : (files : FileMap) (nodes : List Node) (x : ℕ) → Within (used_sources nodes) (length nodes) x → cook_of files nodes x ≡ visit (cook_of files nodes) files x (node_of nodes x)
-cook_visits files nodes x within = one_more files nodes (length nodes) x within
+pub cook_runs_visit : (files : FileMap) (nodes : List Node) (x : ℕ) → Within (used_sources nodes) (length nodes) x → cook_of files nodes x ≡ run (cook_of files nodes) (visit files x (node_of nodes x))
+cook_runs_visit files nodes x within = one_more files nodes (length nodes) x within
 
--- a node's own fault is at the node
-own_failure : (nodes : List Node) (x : ℕ) (made : Result Geo Fault) (f : Failure) → IsLive nodes x → at_node x made ≡ Err f → IsLive nodes f.node
-own_failure nodes x (Ok g) f live h = let no : ⊥ = cc in absurd no
-own_failure nodes x (Err fault) f live h = let same : failed x fault ≡ f = cc in subst (λ e. IsLive nodes e.node) same live
+reaches_itself : (f : ℕ → List ℕ) (x : ℕ) → Reaches f x x
+reaches_itself f x = (zero, refl)
 
-abbrev FailsAlive : (ℕ → Outcome) → List Node → ℕ → Type 0
-FailsAlive go nodes x = (f : Failure) → go x ≡ Err f → IsLive nodes f.node
+reaches_more : (f : ℕ → List ℕ) (x y z : ℕ) → Contains (f x) y → Reaches f y z → Reaches f x z
+reaches_more f x y z h r = (suc r.0, (y, (h, r.1)))
 
-gathered_failure : (go : ℕ → Outcome) (nodes : List Node) (wires : List (Option ℕ)) → ((source : ℕ) → Contains (wired wires) source → FailsAlive go nodes source) → (f : Failure) → gathered go wires ≡ Err f → IsLive nodes f.node
-gathered_failure go nodes [] each f h = let no : ⊥ = cc in absurd no
-gathered_failure go nodes (None ∷ wires) each f h = gathered_failure go nodes wires each f h
-gathered_failure go nodes (Some source ∷ wires) each f h =
-    by (gathered_failure go nodes wires (λ s c. each s (further source s (wired wires) c)) f) (go source) refl (gathered go wires) refl h
-  where
-    by : (gathered go wires ≡ Err f → IsLive nodes f.node) → (first : Outcome) → go source ≡ first → (rest : Result (List Geo) Failure) → gathered go wires ≡ rest → then_with first (λ g. then_with rest (λ gs. Ok (g ∷ gs))) ≡ Err f → IsLive nodes f.node
-    by later (Err e) is rest more failing = let same : e ≡ f = cc in each source (first_is source (wired wires)) f (is ∙ ap Err same)
-    by later (Ok g) is (Err e) more failing = let same : e ≡ f = cc in later (more ∙ ap Err same)
-    by later (Ok g) is (Ok gs) more failing = let no : ⊥ = cc in absurd no
+-- what holds of each end of each visit upstream holds of what the cook gives
+ends_within : (Q : Outcome → Type 0) (files : FileMap) (nodes : List Node) (depth x : ℕ) → Within (used_sources nodes) depth x
+    → ((y : ℕ) → Reaches (used_sources nodes) x y → Ends Q (visit files y (node_of nodes y))) → Q (cooked depth files nodes x)
+ends_within Q files nodes zero x within each = absurd within
+ends_within Q files nodes (suc depth) x within each =
+    run_ends Q (cooked depth files nodes) (visit files x (node_of nodes x)) (each x (reaches_itself (used_sources nodes) x))
+    (asks_sources (λ source. Q (cooked depth files nodes source)) files nodes x
+    (λ source used. ends_within Q files nodes depth source (within source used) (λ y reached. each y (reaches_more (used_sources nodes) x source y used reached))))
 
-given_failure : (go : ℕ → Outcome) (nodes : List Node) (x input : ℕ) (wire : Option ℕ) → IsLive nodes x → ((source : ℕ) → wire ≡ Some source → FailsAlive go nodes source) → (f : Failure) → given go x input wire ≡ Err f → IsLive nodes f.node
-given_failure go nodes x input None live each f h = let same : failed x (fault.NoInput input) ≡ f = cc in subst (λ e. IsLive nodes e.node) same live
-given_failure go nodes x input (Some source) live each f h = each source refl f h
+-- a failure at its own node
+own_failure : (P : Failure → Type 0) (x : ℕ) (made : Result Geo Fault) → ((f : Fault) → made ≡ Err f → P (failed x f)) → (f : Failure) → at_node x made ≡ Err f → P f
+own_failure P x (Ok g) own f h = let no : ⊥ = cc in absurd no
+own_failure P x (Err e) own f h = let same : failed x e ≡ f = cc in subst P same (own e refl)
 
-merge_failure : (go : ℕ → Outcome) (nodes : List Node) (x : ℕ) (wires : List (Option ℕ)) → IsLive nodes x → ((source : ℕ) → Contains (wired wires) source → FailsAlive go nodes source) → (f : Failure) → merge_outcome go x wires ≡ Err f → IsLive nodes f.node
-merge_failure go nodes x wires live each f h = by (gathered go wires) refl h
-  where
-    by : (got : Result (List Geo) Failure) → gathered go wires ≡ got → then_with got (λ gs. at_node x (merge_geo gs)) ≡ Err f → IsLive nodes f.node
-    by (Err e) is failing = let same : e ≡ f = cc in gathered_failure go nodes wires each f (is ∙ ap Err same)
-    by (Ok gs) is failing = own_failure nodes x (merge_geo gs) f live failing
+given_failure : (P : Failure → Type 0) (e f : Failure) → P e → ◌≡◌ {A = Outcome} (Err e) (Err f) → P f
+given_failure P e f own h = let same : e ≡ f = cc in subst P same own
 
-type_failure : (go : ℕ → Outcome) (files : FileMap) (nodes : List Node) (x : ℕ) (n : Node) (node_type : NodeType) → IsLive nodes x → ((source : ℕ) → Contains (wired (wires_used_by node_type n)) source → FailsAlive go nodes source)
-    → (f : Failure) → visit_type go files x n node_type ≡ Err f → IsLive nodes f.node
-type_failure go files nodes x n type.File live each f h = own_failure nodes x (file_geo (files (parm_at n.parms 0))) f live h
-type_failure go files nodes x n type.Merge live each f h = merge_failure go nodes x n.wires live each f h
-type_failure go files nodes x n type.Null live each f h = given_failure go nodes x 0 (wire_at n.wires 0) live (λ source e. each source (wired_at n.wires 0 source e)) f h
-type_failure go files nodes x n type.Switch live each f h =
-    given_failure go nodes x (switch_input n) (wire_at n.wires (switch_input n)) live (λ source e. each source (wired_at (wire_at n.wires (switch_input n) ∷ []) 0 source e)) f h
-type_failure go files nodes x n other live each f h = own_failure nodes x (Err fault.NotYet) f live h
+-- what holds of each failure that a node makes by itself holds of the cook's
+cook_fails : (P : Failure → Type 0) (files : FileMap) (nodes : List Node) (x : ℕ) → Within (used_sources nodes) (length nodes) x
+    → ((y input : ℕ) → Reaches (used_sources nodes) x y → P (failed y (fault.NoInput input))) → ((y : ℕ) → Reaches (used_sources nodes) x y → P (failed y fault.NotYet))
+    → ((y : ℕ) (n : Node) (inputs : List (Option Geo)) (f : Fault) → Reaches (used_sources nodes) x y → node_of nodes y ≡ Some n → made files n inputs ≡ Err f → P (failed y f))
+    → (f : Failure) → cook_of files nodes x ≡ Err f → P f
+cook_fails P files nodes x within unwired unbuilt own f h =
+    ends_within (λ outcome. (f : Failure) → outcome ≡ Err f → P f) files nodes (length nodes) x within
+    (λ y reached.
+    visit_ends (λ outcome. (f : Failure) → outcome ≡ Err f → P f) files y (node_of nodes y)
+    (λ input f h. given_failure P (failed y (fault.NoInput input)) f (unwired y input reached) h)
+    (λ f h. given_failure P (failed y fault.NotYet) f (unbuilt y reached) h)
+    (λ n found inputs. own_failure P y (made files n inputs) (λ e is. own y n inputs e reached found is)))
+    f h
 
-visit_failure : (go : ℕ → Outcome) (files : FileMap) (nodes : List Node) (x : ℕ) (found : Option Node) → IsLive nodes x → ((source : ℕ) → Contains (wired (used_wires found)) source → FailsAlive go nodes source)
-    → (f : Failure) → visit go files x found ≡ Err f → IsLive nodes f.node
-visit_failure go files nodes x None live each f h = own_failure nodes x (Err fault.NotYet) f live h
-visit_failure go files nodes x (Some n) live each f h = type_failure go files nodes x n n.node_type live each f h
-
-failure_within : (files : FileMap) (nodes : List Node) → ((x y : ℕ) → Contains (used_sources nodes x) y → IsLive nodes y) → (depth x : ℕ) → IsLive nodes x → (f : Failure) → cooked depth files nodes x ≡ Err f → IsLive nodes f.node
-failure_within files nodes used zero x live f h = own_failure nodes x (Err fault.NotYet) f live h
-failure_within files nodes used (suc depth) x live f h =
-    visit_failure (cooked depth files nodes) files nodes x (node_of nodes x) live (λ source c. failure_within files nodes used depth source (used x source c)) f h
+-- the nodes upstream of one that stands stand
+reached_live : (nodes : List Node) → ((x y : ℕ) → Contains (used_sources nodes x) y → IsLive nodes y) → (k x y : ℕ) → IsLive nodes x → Steps (used_sources nodes) k x y → IsLive nodes y
+reached_live nodes used zero x y live s = subst (IsLive nodes) s live
+reached_live nodes used (suc k) x y live (m, (h, s)) = reached_live nodes used k m y (used x m h) s
 
 -- a fault's node stands
-pub failure_live : (files : FileMap) (nodes : List Node) → ((x y : ℕ) → Contains (used_sources nodes x) y → IsLive nodes y) → (x : ℕ) → IsLive nodes x → (f : Failure) → cook_of files nodes x ≡ Err f → IsLive nodes f.node
-failure_live files nodes used x live f h = failure_within files nodes used (length nodes) x live f h
+pub failure_live : (files : FileMap) (nodes : List Node) (x : ℕ) → Within (used_sources nodes) (length nodes) x → ((x y : ℕ) → Contains (used_sources nodes x) y → IsLive nodes y) → IsLive nodes x
+    → (f : Failure) → cook_of files nodes x ≡ Err f → IsLive nodes f.node
+failure_live files nodes x within used live =
+    let upstream : (y : ℕ) → Reaches (used_sources nodes) x y → IsLive nodes y = λ y r. reached_live nodes used r.0 x y live r.1 in
+    cook_fails (λ f. IsLive nodes f.node) files nodes x within (λ y input r. upstream y r) (λ y r. upstream y r) (λ y n inputs f r found is. upstream y r)
+
+-- files that are alike where a node is cooked
+same_within : (files others : FileMap) (nodes : List Node) (depth x : ℕ) → AreAlike files others nodes x → cooked depth files nodes x ≡ cooked depth others nodes x
+same_within files others nodes zero x alike = refl
+same_within files others nodes (suc depth) x alike =
+    let f = used_sources nodes in
+    same_run (cooked depth files nodes) (cooked depth others nodes) (visit files x (node_of nodes x))
+    (asks_sources (λ source. cooked depth files nodes source ≡ cooked depth others nodes source) files nodes x
+    (λ source used. same_within files others nodes depth source (λ y name reached is. alike y name (reaches_more f x source y used reached) is)))
+    ∙ ap (run (cooked depth others nodes))
+    (same_visit files others x (node_of nodes x) (λ n found is_file. alike x (parm_at n.parms 0) (reaches_itself f x) (ap file_of_node found ∙ ap (λ t. file_of_type t n) is_file)))
+
+pub same_cook : (files others : FileMap) (nodes : List Node) (x : ℕ) → AreAlike files others nodes x → cook_of files nodes x ≡ cook_of others nodes x
+same_cook files others nodes x alike = same_within files others nodes (length nodes) x alike
+
+-- only a file that is missing makes NoFile
+file_missing : (file : LoadedFile) → file_geo file ≡ Err fault.NoFile → file ≡ Missing
+file_missing (Bytes bytes) h = absurd (by (has_first_form bytes) h)
+  where
+    read : (r : Result Geo Refusal) → unrefused r ≡ Err fault.NoFile → ⊥
+    read (Ok g) e = cc
+    read (Err refusal) e = cc
+
+    by : (b : Bool) → (if b then unrefused (obj_geo bytes) else Err fault.NotYet) ≡ Err fault.NoFile → ⊥
+    by true e = read (obj_geo bytes) e
+    by false e = cc
+file_missing Missing h = refl
+file_missing TooLong h = let no : ⊥ = cc in absurd no
+
+merge_finds : (gs : List Geo) → merge_geo gs ≡ Err fault.NoFile → ⊥
+merge_finds gs h = by (fits (merged gs)) h
+  where
+    by : (b : Bool) → (if b then Ok (merged gs) else Err fault.Limit) ≡ Err fault.NoFile → ⊥
+    by true e = cc
+    by false e = cc
+
+only_finds : (inputs : List (Option Geo)) → only inputs ≡ Err fault.NoFile → ⊥
+only_finds [] h = cc
+only_finds (Some g ∷ inputs) h = cc
+only_finds (None ∷ inputs) h = cc
+
+made_missing : (files : FileMap) (n : Node) (t : NodeType) (inputs : List (Option Geo)) → made_by t files n inputs ≡ Err fault.NoFile → (file_of_type t n ≡ Some (parm_at n.parms 0)) × (files (parm_at n.parms 0) ≡ Missing)
+made_missing files n type.File inputs h = (refl, file_missing (files (parm_at n.parms 0)) h)
+made_missing files n type.Merge inputs h = absurd (merge_finds (given inputs) h)
+made_missing files n type.Null inputs h = absurd (only_finds inputs h)
+made_missing files n type.Switch inputs h = absurd (only_finds inputs h)
+made_missing files n other inputs h = let no : ⊥ = cc in absurd no
+
+-- a cook gives NoFile only at a node whose file is missing
+pub no_file : (files : FileMap) (nodes : List Node) (x : ℕ) → Within (used_sources nodes) (length nodes) x → (y : ℕ) → cook_of files nodes x ≡ Err (failed y fault.NoFile) → IsMissing files nodes x y
+no_file files nodes x within y h =
+    cook_fails (λ f. f.fault ≡ fault.NoFile → IsMissing files nodes x f.node) files nodes x within
+    (λ z input r e. let no : ⊥ = cc in absurd no)
+    (λ z r e. let no : ⊥ = cc in absurd no)
+    (λ z n inputs f r found is e.
+    let own = made_missing files n n.node_type inputs (is ∙ ap Err e) in
+    record { reached = r; name = parm_at n.parms 0; file = ap file_of_node found ∙ own.0; missing = own.1 })
+    (failed y fault.NoFile) h refl
+
+-- the fault of a node names no node but by its name
+abbrev IsNamed : Result Geo Fault → Type 0
+IsNamed (Ok g) = ⊤
+IsNamed (Err f) = IsTrue (has_named_node f)
+
+file_named : (file : LoadedFile) → IsNamed (file_geo file)
+file_named (Bytes bytes) = by (has_first_form bytes)
+  where
+    read : (r : Result Geo Refusal) → IsNamed (unrefused r)
+    read (Ok g) = tt
+    read (Err refusal) = refl
+
+    by : (b : Bool) → IsNamed (if b then unrefused (obj_geo bytes) else Err fault.NotYet)
+    by true = read (obj_geo bytes)
+    by false = refl
+file_named Missing = refl
+file_named TooLong = refl
+
+merge_named : (gs : List Geo) → IsNamed (merge_geo gs)
+merge_named gs = by (fits (merged gs))
+  where
+    by : (b : Bool) → IsNamed (if b then Ok (merged gs) else Err fault.Limit)
+    by true = tt
+    by false = refl
+
+only_named : (inputs : List (Option Geo)) → IsNamed (only inputs)
+only_named [] = refl
+only_named (Some g ∷ inputs) = tt
+only_named (None ∷ inputs) = refl
+
+made_named : (files : FileMap) (n : Node) (t : NodeType) (inputs : List (Option Geo)) → IsNamed (made_by t files n inputs)
+made_named files n type.File inputs = file_named (files (parm_at n.parms 0))
+made_named files n type.Merge inputs = merge_named (given inputs)
+made_named files n type.Null inputs = only_named inputs
+made_named files n type.Switch inputs = only_named inputs
+made_named files n other inputs = refl
+
+pub failure_named : (files : FileMap) (nodes : List Node) (x : ℕ) → Within (used_sources nodes) (length nodes) x → (f : Failure) → cook_of files nodes x ≡ Err f → IsTrue (has_named_node f.fault)
+failure_named files nodes x within =
+    cook_fails (λ f. IsTrue (has_named_node f.fault)) files nodes x within (λ y input r. refl) (λ y r. refl)
+    (λ y n inputs f r found is. subst IsNamed is (made_named files n n.node_type inputs))

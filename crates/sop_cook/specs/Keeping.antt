@@ -1,18 +1,22 @@
--- What a cook keeps of finished nodes, and what it tells.
-use Rattle.std.specs.Prelude.{◌≡◌, ℕ, List, Option, Some, Result, Ok, Err, length, slice_get, ◌+◌, Bool, nat_lt, ◌||◌, ⊤, Vec}
-use Rattle.std.specs.declared.alloc.Global.{Global}
+-- What a cook keeps of finished nodes, and what its steps tell.
+use Rattle.std.specs.Prelude.{◌≡◌, ℕ, ⊤, List, Option, Some, Result, Ok, Err, length, slice_get, Bool, nat_lt, ◌||◌, ◌+◌, All, IsTrue}
 use Rattle.sop_model.specs.Vertices.{corners_of}
 use Rattle.sop_model.specs.declared.geo.Geo.{Geo}
 use Rattle.sop_model.specs.declared.fault.Fault as fault
 use Rattle.sop_model.specs.declared.fault.CookStop.{CookStop}
 use Rattle.sop_model.specs.declared.fault.CookStop.TheVariants as stop
+use Rattle.sop_model.specs.Faults.{has_named_node}
 use Rattle.sop_model.specs.Geometry.{IsGood, Fits, HasOnlyPosition}
+use Rattle.sop_model.specs.Limits.{most_points, most_prims, most_vertices}
+use Rattle.sop_model.specs.Merge.{merged}
+use Rattle.sop_model.specs.Plain.{IsPlain}
 use Rattle.sop_net.specs.declared.node.Node.{Node}
 use Rattle.sop_net.specs.Network.{place_of, IsLive}
 use Rattle.sop_cook.specs.declared.cook_end.CookEnd.{CookEnd}
 use Rattle.sop_cook.specs.declared.cook_end.CookEnd.TheVariants as end
 use Rattle.sop_cook.specs.declared.kept.Kept.{Kept}
-use Rattle.sop_cook.specs.SerialCook.{Outcome, Failure, failed}
+use Rattle.sop_cook.specs.Visit.{Outcome, failed, Visit}
+use Rattle.sop_cook.specs.SerialCook.{run}
 
 -- a well made geometry within its limits that has `P` alone
 pub record IsReady (g : Geo) : Type 0 where
@@ -22,11 +26,17 @@ pub record IsReady (g : Geo) : Type 0 where
 
 -- more points, primitives or vertices than a geometry may have
 abbrev pub is_over_limits : ℕ → ℕ → ℕ → Bool
-is_over_limits points prims vertices = nat_lt 1000000 points || nat_lt 1000000 prims || nat_lt 4000000 vertices
+is_over_limits points prims vertices = nat_lt most_points points || nat_lt most_prims prims || nat_lt most_vertices vertices
 
 -- the merge of two geometries has more than it may
 abbrev pub are_over : Geo → Geo → Bool
 are_over a b = is_over_limits (length a.points + length b.points) (length a.prims + length b.prims) (length (corners_of a.prims) + length (corners_of b.prims))
+
+-- the geometries so far were merged
+pub record Merged (gs : List Geo) (into : Geo) : Type 0 where
+  pub merge : merged gs ≡ into
+  pub plain : All IsPlain gs
+  pub ready : IsReady into
 
 -- the code answers exactly what the node gives, or want of memory
 abbrev pub Tells : Outcome → Result Geo CookEnd → Type 0
@@ -34,28 +44,36 @@ Tells outcome (Ok g) = outcome ≡ Ok g
 Tells outcome (Err (end.Fault x f)) = outcome ≡ Err (failed x f)
 Tells outcome (Err end.Memory) = ⊤
 
--- the node of a fault stands
-abbrev pub IsAtLive : List Node → CookEnd → Type 0
-IsAtLive nodes (end.Fault x f) = IsLive nodes x
-IsAtLive nodes end.Memory = ⊤
-
 -- the same, of what one node makes
 abbrev pub TellsMade : Result Geo fault.Fault → Result Geo CookStop → Type 0
 TellsMade outcome (Ok g) = outcome ≡ Ok g
 TellsMade outcome (Err (stop.Fault f)) = outcome ≡ Err f
 TellsMade outcome (Err stop.Memory) = ⊤
 
--- the same, of several nodes in turn
-abbrev pub TellsAll : Result (List Geo) Failure → Result (Vec Geo Global) CookEnd → Type 0
-TellsAll outcome (Ok geos) = outcome ≡ Ok geos.items
-TellsAll outcome (Err (end.Fault x f)) = outcome ≡ Err (failed x f)
-TellsAll outcome (Err end.Memory) = ⊤
+-- what is asked goes on with this answer, whatever is then done with it
+abbrev pub GoesOn : {A : Type 0} → (ℕ → Outcome) → ((A → Visit) → Visit) → A → Type 0
+GoesOn {A} go asks answer = (more : A → Visit) → run go (asks more) ≡ run go (more answer)
+
+-- what is asked ends so, whatever would then be done
+abbrev pub EndsSo : {A : Type 0} → (ℕ → Outcome) → ((A → Visit) → Visit) → CookEnd → Type 0
+EndsSo {A} go asks (end.Fault x f) = (more : A → Visit) → run go (asks more) ≡ Err (failed x f)
+EndsSo {A} go asks end.Memory = ⊤
+
+-- the node of a fault stands
+abbrev pub IsAtLive : List Node → CookEnd → Type 0
+IsAtLive nodes (end.Fault x f) = IsLive nodes x
+IsAtLive nodes end.Memory = ⊤
+
+-- the node that a fault names has a name
+abbrev pub HasNamedNode : CookEnd → Type 0
+HasNamedNode (end.Fault x f) = IsTrue (has_named_node f)
+HasNamedNode end.Memory = ⊤
 
 -- each kept geometry is what its node gives
-pub record IsKept (cook : ℕ → Outcome) (nodes : List Node) (kept : Kept) : Type 0 where
+pub record IsKept (go : ℕ → Outcome) (nodes : List Node) (kept : Kept) : Type 0 where
   pub uses : length kept.uses.items ≡ length nodes
   pub places : length kept.geos.items ≡ length nodes
-  pub geos : (x place : ℕ) (g : Geo) → place_of nodes x ≡ Some place → slice_get kept.geos.items place ≡ Some (Some g) → (cook x ≡ Ok g) × IsReady g
+  pub geos : (x place : ℕ) (g : Geo) → place_of nodes x ≡ Some place → slice_get kept.geos.items place ≡ Some (Some g) → (go x ≡ Ok g) × IsReady g
 
 -- so many places, and none has a geometry
 pub record AreNone (count : ℕ) (geos : List (Option Geo)) : Type 0 where

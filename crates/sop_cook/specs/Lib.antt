@@ -1,3 +1,7 @@
 pub mod Loads
+pub mod Made
+pub mod Visit
 pub mod SerialCook
+pub mod Laws
 pub mod Keeping
+pub mod Cooking

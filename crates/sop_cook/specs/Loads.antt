@@ -1,5 +1,5 @@
 -- The loads of files that a cook reads, by name.
-use Rattle.std.specs.Prelude.{◌≡◌, ◌⊎◌, ℕ, List, map, String, string_bytes, unwrap_or, refl}
+use Rattle.std.specs.Prelude.{◌≡◌, ◌⊎◌, ℕ, List, unwrap_or, refl}
 use Rattle.std.specs.Coded.{Coded, code_by, coded_list, coded_ℕ, coded⊎}
 use base.Stored.{coded_unit}
 use mathlib.Core.Logic.{inl, inr}
@@ -31,10 +31,6 @@ load_from_as (Bytes bytes) = refl
 
 abbrev pub loads_code : Coded Loads
 loads_code = finite.code (coded_list coded_ℕ) (code_by (Unit {0} ⊎ Unit {0} ⊎ List ℕ) (coded⊎ coded_unit (coded⊎ coded_unit (coded_list coded_ℕ))) load_as load_from load_from_as)
-
--- the loads from the entries of a map by text
-abbrev pub loads_of : {Y : Type 0} → List (String Y × LoadedFile) → Loads
-loads_of entries = finite.from_entries (map (λ entry. (string_bytes entry.0, entry.1)) entries)
 
 -- what the load of each name gives
 abbrev pub FileMap : Type 0

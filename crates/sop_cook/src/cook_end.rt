@@ -1,4 +1,4 @@
-// Why a cook gives no geometry.
+//! Why a cook gives no geometry.
 use sop_model::Fault;
 use sop_net::NodeId;
 

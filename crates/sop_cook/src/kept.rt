@@ -1,7 +1,11 @@
-// What a cook keeps.
-ghost use Rattle.std.specs.Prelude.{◌≡◌, ◌<◌, ◌⊎◌, length, None, Some, OnErr, OnOk, slice_get, slice_index, slice_set};
+//! What a cook keeps of finished nodes.
+ghost use Rattle.std.specs.Prelude.{◌≡◌, ◌<◌, ◌⊎◌, length, IfOk, None, Some, OnErr, OnOk, slice_get, slice_index, slice_set};
+ghost use Rattle.sop_net.specs.Network.{IsLive};
+ghost use Rattle.sop_cook.specs.Keeping.{AreNone};
 
+use crate::uses::uses_of;
 use sop_model::{Copied, Geo};
+use sop_net::{Net, NodeId};
 use std::alloc::{AllocError, Global};
 
 /// How often each node is still used, and the geometries that are still used.
@@ -12,6 +16,18 @@ pub struct Kept {
 }
 
 impl Kept {
+    /// What is kept before any node of a cook of `node` was finished.
+    pub fn new(alloc: Global, net: &Net, node: NodeId) -> Result<Kept, AllocError>
+        requires { IsLive net.now.nodes node }
+        ensures uses { IfOk result (λ kept. length kept.uses.items ≡ length net.now.nodes) }
+        ensures geos { IfOk result (λ kept. AreNone (length net.now.nodes) kept.geos.items) }
+    {
+        Ok(Kept {
+            uses: uses_of(alloc, net, node)?,
+            geos: no_geos(alloc, net.nodes() as usize)?,
+        })
+    }
+
     /// Takes the kept geometry of node x, of which one use less is left.
     pub fn take(&mut self, x: usize) -> Option<Geo>
         requires uses { x < length self.old.uses.items }
@@ -38,4 +54,15 @@ impl Kept {
         }
         Ok(())
     }
+}
+
+/// So many places without a geometry.
+fn no_geos(alloc: Global, count: usize) -> Result<Vec<Option<Geo>>, AllocError>
+    ensures { IfOk result (λ places. AreNone count places.items) }
+{
+    let mut places = Vec::with_capacity(alloc, count)?;
+    for _ in 0..count {
+        places.push(None)?;
+    }
+    Ok(places)
 }

@@ -3,12 +3,15 @@
 
 mod cook_end;
 mod kept;
+mod law;
 mod loaded;
+mod make;
 mod merge;
 mod serial;
 mod uses;
 
 pub use cook_end::CookEnd;
+pub use law::cook_runs_visits;
 pub use loaded::{Loaded, LoadedFile};
 pub use serial::cook;
 

@@ -1,4 +1,4 @@
-// Loads that were kept.
+//! Loads that were kept.
 ghost use Rattle.std.specs.Prelude.{◌≡◌, OnOk, OnErr, Some, is_some};
 ghost use Rattle.std.specs.Option.{option_copied};
 ghost use Rattle.std.specs.FinMap as map;
@@ -27,13 +27,14 @@ pub struct Loaded {
 }
 
 impl Model for Loaded {
-    ghost use Rattle.sop_cook.specs.Loads.{Loads, loads_code, loads_of};
+    ghost use Rattle.sop_outside.specs.TextMaps.{by_bytes};
+    ghost use Rattle.sop_cook.specs.Loads.{Loads, loads_code};
 
     ghost Value = { Loads };
 
     ghost coded = { loads_code };
 
-    ghost view = { λ l. loads_of l.files.entries };
+    ghost view = { λ l. by_bytes l.files.entries };
 }
 
 impl Loaded {

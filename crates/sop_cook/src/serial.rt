@@ -1,44 +1,187 @@
-// The serial cook of a network. Each node that is needed is cooked once.
-ghost use Rattle.std.specs.Prelude.{◌≡◌, ◌≤◌, length, All, IfErr, IfOk, Result};
+//! The serial cook of a network. Each node that is needed is cooked once.
+ghost use Rattle.std.specs.Prelude.{◌≡◌, ℕ, length, All, Contains, IfErr, IfOk, IfSome, Ok, Result};
 ghost use Rattle.sop_model.specs.declared.geo.Geo.{Geo};
 ghost use Rattle.sop_model.specs.declared.fault.Fault.{Fault};
 ghost use Rattle.sop_net.specs.Graph.{Within};
-ghost use Rattle.sop_net.specs.Network.{IsLive, IsNetwork, node_of, used_sources, wire_at, wires_of, used_wires};
-ghost use Rattle.sop_cook.specs.SerialCook.{at_node, cook_of, failed, file_geo, gathered, given, merge_outcome};
+ghost use Rattle.sop_net.specs.Network.{IsLive, node_of, used_sources};
+ghost use Rattle.sop_net.specs.Sockets.{sockets_of};
 ghost use Rattle.sop_cook.specs.Loads.{file_in};
-ghost use Rattle.sop_cook.specs.Keeping.{IsAtLive, IsKept, Tells, TellsAll, TellsMade, IsReady, AreNone};
+ghost use Rattle.sop_cook.specs.Visit.{at_node, ask, ask_all};
+ghost use Rattle.sop_cook.specs.SerialCook.{cook_of};
+ghost use Rattle.sop_cook.specs.Laws.{IsMissing};
+ghost use Rattle.sop_cook.specs.Keeping.{HasNamedNode, IsAtLive, Tells, TellsMade, GoesOn, EndsSo, IsReady};
+ghost use Rattle.sop_cook.specs.Cooking.{nodes_of, gives, IsRunning, RunsOn};
 
 use crate::cook_end::CookEnd;
 use crate::kept::Kept;
-use crate::loaded::{Loaded, LoadedFile};
-use crate::merge::merge;
-use crate::uses::{MOST_INPUTS, uses_of};
-use geo_text::{ObjFault, read_obj};
+use crate::loaded::Loaded;
+use crate::make::{is_built, make};
 use sop_model::{CookStop, Fault, Geo};
-use sop_net::{Net, NodeId, NodeType};
-use std::alloc::{AllocError, Global};
+use sop_net::{Net, NodeId, Sockets};
+use std::alloc::Global;
 
-/// The geometry of a loaded file.
-fn read_file(alloc: Global, loaded: &Loaded, name: &str) -> Result<Geo, CookStop>
-    ensures tells { TellsMade (file_geo (file_in loaded.now name.now)) result }
+/// Cooks a node of a network: its geometry, exactly as the serial cook defines it, or exactly its fault with the fault's node.
+///
+/// Each node that it needs is cooked once, inputs before the node. A file that has no load counts as missing.
+pub fn cook(alloc: Global, net: &Net, node: NodeId, loaded: &Loaded) -> Result<Geo, CookEnd>
+    requires { IsLive net.now.nodes node }
+    ensures tells { Tells (cook_of (file_in loaded.now) net.now.nodes node) result }
     ensures ready { IfOk result IsReady }
+    ensures at { IfErr result (IsAtLive net.now.nodes) }
+    ensures named { IfErr result HasNamedNode }
+
+    // `NoFile` comes only where the load of the file of the fault's node is `Missing` or isn't there.
+    ensures no_file { IfErr result (λ end. (x : ℕ) → end ≡ CookEnd.Fault x Fault.NoFile → IsMissing (file_in loaded.now) net.now.nodes node x) }
 {
-    match loaded.get(name) {
-        Some(LoadedFile::Bytes(bytes)) => read_bytes(alloc, bytes.as_slice()),
-        Some(LoadedFile::TooLong) => Err(CookStop::Fault(Fault::Limit)),
-        Some(LoadedFile::Missing) | None => Err(CookStop::Fault(Fault::NoFile)),
-    }
+    net.is_network();
+    let nodes = net.nodes();
+    let kept = match Kept::new(alloc, net, node) {
+        Ok(kept) => kept,
+        Err(_) => return Err(CookEnd::Memory),
+    };
+    let mut cooking = Cooking {
+        alloc,
+        net,
+        loaded,
+        kept,
+    };
+    cooking.give(node, nodes)
 }
 
-/// The geometry of a file of these bytes.
-fn read_bytes(alloc: Global, bytes: &[u8]) -> Result<Geo, CookStop>
-    ensures tells { TellsMade (file_geo (LoadedFile.Bytes bytes.now)) result }
-    ensures ready { IfOk result IsReady }
-{
-    match read_obj(alloc, bytes) {
-        Ok(geo) => Ok(geo),
-        Err(ObjFault::NotYet) => Err(CookStop::Fault(Fault::NotYet)),
-        Err(ObjFault::Memory) => Err(CookStop::Memory),
+/// A cook that runs.
+#[derive(Drop)]
+struct Cooking<'a> {
+    alloc: Global,
+    net: &'a Net,
+    loaded: &'a Loaded,
+    kept: Kept,
+}
+
+impl<'a> Cooking<'a> {
+    /// The geometry of a node, which is kept where a later use is left. `left` bounds the ways upstream.
+    #[cycle(cook)]
+    fn give(&mut self, node: NodeId, left: u32) -> Result<Geo, CookEnd>
+        requires live { IsLive (nodes_of self.old) node }
+        requires within { Within (used_sources (nodes_of self.old)) left node }
+        requires running { IsRunning self.old }
+        ensures on { RunsOn self.old self.new }
+        ensures tells { Tells (gives self.old node) result }
+        ensures ready { IfOk result IsReady }
+    {
+        let place = self.net.place(node) as usize;
+        match self.kept.take(place) {
+            Some(geo) => self.keep(node, geo),
+            None => match self.visit(node, left) {
+                Ok(geo) => self.keep(node, geo),
+                Err(end) => Err(end),
+            },
+        }
+    }
+
+    /// Hands on the geometry of a node, and keeps a copy where a later use is left.
+    fn keep(&mut self, node: NodeId, geo: Geo) -> Result<Geo, CookEnd>
+        requires live { IsLive (nodes_of self.old) node }
+        requires running { IsRunning self.old }
+        requires gives { gives self.old node ≡ Ok geo }
+        requires ready { IsReady geo }
+        ensures on { RunsOn self.old self.new }
+        ensures ok { IfOk result (λ same. same ≡ geo) }
+        ensures ready { IfOk result IsReady }
+        ensures memory { IfErr result (λ end. end ≡ CookEnd.Memory) }
+    {
+        let place = self.net.place(node) as usize;
+        match self.kept.keep(self.alloc, place, &geo) {
+            Ok(()) => Ok(geo),
+            Err(_) => Err(CookEnd::Memory),
+        }
+    }
+
+    /// Visits a node: it asks for its inputs, and makes its geometry of them.
+    #[cycle(cook)]
+    fn visit(&mut self, node: NodeId, left: u32) -> Result<Geo, CookEnd>
+        requires live { IsLive (nodes_of self.old) node }
+        requires within { Within (used_sources (nodes_of self.old)) left node }
+        requires running { IsRunning self.old }
+        ensures on { RunsOn self.old self.new }
+        ensures tells { Tells (gives self.old node) result }
+        ensures ready { IfOk result IsReady }
+    {
+        let net = self.net;
+        net.is_network();
+        if !is_built(net.node_type(node)) {
+            return Err(CookEnd::Fault {
+                node,
+                fault: Fault::NotYet,
+            });
+        }
+        match self.gather(node, left) {
+            Ok(inputs) => made_at(node, make(self.alloc, net, node, inputs, self.loaded)),
+            Err(end) => Err(end),
+        }
+    }
+
+    /// The inputs that a node uses, asked for in turn.
+    #[cycle(cook)]
+    fn gather(&mut self, node: NodeId, left: u32) -> Result<Vec<Option<Geo>>, CookEnd>
+        requires live { IsLive (nodes_of self.old) node }
+        requires within { Within (used_sources (nodes_of self.old)) left node }
+        requires running { IsRunning self.old }
+        ensures on { RunsOn self.old self.new }
+        ensures ok { IfOk result (λ inputs. IfSome (node_of (nodes_of self.old) node) (λ n. GoesOn (gives self.old) (ask_all node (sockets_of n)) inputs.items)) }
+        ensures err { IfErr result (λ end. IfSome (node_of (nodes_of self.old) node) (λ n. EndsSo (gives self.old) (ask_all node (sockets_of n)) end)) }
+        ensures ready { IfOk result (λ inputs. All (λ input. IfSome input IsReady) inputs.items) }
+    {
+        let net = self.net;
+        let Sockets {
+            first,
+            are_needed,
+            wires,
+        } = net.sockets(node);
+        let mut inputs = Vec::new(self.alloc);
+        for i in 0..wires.len() {
+            let geo = match self.ask(node, first + i as u32, are_needed, wires[i], left) {
+                Ok(geo) => geo,
+                Err(end) => return Err(end),
+            };
+            match inputs.push(geo) {
+                Ok(()) => {}
+                Err(_) => return Err(CookEnd::Memory),
+            }
+        }
+        Ok(inputs)
+    }
+
+    /// The geometry of one input of a node, or none where it isn't wired and need not be.
+    #[cycle(cook)]
+    fn ask(
+        &mut self,
+        node: NodeId,
+        input: u32,
+        is_needed: bool,
+        wire: Option<NodeId>,
+        left: u32,
+    ) -> Result<Option<Geo>, CookEnd>
+        requires used { IfSome wire (λ source. Contains (used_sources (nodes_of self.old) node) source) }
+        requires within { Within (used_sources (nodes_of self.old)) left node }
+        requires running { IsRunning self.old }
+        ensures on { RunsOn self.old self.new }
+        ensures ok { IfOk result (GoesOn (gives self.old) (ask node input is_needed wire)) }
+        ensures err { IfErr result (EndsSo (gives self.old) (ask node input is_needed wire)) }
+        ensures ready { IfOk result (λ geo. IfSome geo IsReady) }
+    {
+        let net = self.net;
+        net.is_network();
+        match wire {
+            Some(source) => match self.give(source, left - 1) {
+                Ok(geo) => Ok(Some(geo)),
+                Err(end) => Err(end),
+            },
+            None if is_needed => Err(CookEnd::Fault {
+                node,
+                fault: Fault::NoInput(input),
+            }),
+            None => Ok(None),
+        }
     }
 }
 
@@ -53,200 +196,4 @@ fn made_at(node: NodeId, made: Result<Geo, CookStop>) -> Result<Geo, CookEnd>
         Err(CookStop::Fault(fault)) => Err(CookEnd::Fault { node, fault }),
         Err(CookStop::Memory) => Err(CookEnd::Memory),
     }
-}
-
-/// The geometry of a node, which is kept where a later use is left. `left` bounds the ways upstream.
-#[cycle(cook)]
-fn give(
-    alloc: Global,
-    net: &Net,
-    loaded: &Loaded,
-    node: NodeId,
-    left: u32,
-    kept: &mut Kept,
-) -> Result<Geo, CookEnd>
-    requires live { IsLive net.now.nodes node }
-    requires within { Within (used_sources net.now.nodes) left node }
-    requires kept { IsKept (cook_of (file_in loaded.now) net.now.nodes) net.now.nodes kept.old }
-    ensures kept { IsKept (cook_of (file_in loaded.now) net.now.nodes) net.now.nodes kept.new }
-    ensures tells { Tells (cook_of (file_in loaded.now) net.now.nodes node) result }
-    ensures ready { IfOk result IsReady }
-{
-    let place = net.place(node) as usize;
-    let geo = match kept.take(place) {
-        Some(geo) => geo,
-        None => return make_and_keep(alloc, net, loaded, node, left, kept),
-    };
-    match kept.keep(alloc, place, &geo) {
-        Ok(()) => Ok(geo),
-        Err(_) => Err(CookEnd::Memory),
-    }
-}
-
-/// Cooks a node, and keeps its geometry where a later use is left.
-#[cycle(cook)]
-fn make_and_keep(
-    alloc: Global,
-    net: &Net,
-    loaded: &Loaded,
-    node: NodeId,
-    left: u32,
-    kept: &mut Kept,
-) -> Result<Geo, CookEnd>
-    requires live { IsLive net.now.nodes node }
-    requires within { Within (used_sources net.now.nodes) left node }
-    requires kept { IsKept (cook_of (file_in loaded.now) net.now.nodes) net.now.nodes kept.old }
-    ensures kept { IsKept (cook_of (file_in loaded.now) net.now.nodes) net.now.nodes kept.new }
-    ensures tells { Tells (cook_of (file_in loaded.now) net.now.nodes node) result }
-    ensures ready { IfOk result IsReady }
-{
-    let geo = match make(alloc, net, loaded, node, left, kept) {
-        Ok(geo) => geo,
-        Err(end) => return Err(end),
-    };
-    let place = net.place(node) as usize;
-    match kept.keep(alloc, place, &geo) {
-        Ok(()) => Ok(geo),
-        Err(_) => Err(CookEnd::Memory),
-    }
-}
-
-/// Cooks a node.
-#[cycle(cook)]
-fn make(
-    alloc: Global,
-    net: &Net,
-    loaded: &Loaded,
-    node: NodeId,
-    left: u32,
-    kept: &mut Kept,
-) -> Result<Geo, CookEnd>
-    requires live { IsLive net.now.nodes node }
-    requires within { Within (used_sources net.now.nodes) left node }
-    requires kept { IsKept (cook_of (file_in loaded.now) net.now.nodes) net.now.nodes kept.old }
-    ensures kept { IsKept (cook_of (file_in loaded.now) net.now.nodes) net.now.nodes kept.new }
-    ensures tells { Tells (cook_of (file_in loaded.now) net.now.nodes node) result }
-    ensures ready { IfOk result IsReady }
-{
-    net.is_network();
-    match net.node_type(node) {
-        NodeType::File => made_at(node, read_file(alloc, loaded, net.parms(node).text(0))),
-        NodeType::Merge => match gather(alloc, net, loaded, node, left, kept) {
-            Ok(inputs) => made_at(node, merge(alloc, inputs)),
-            Err(end) => Err(end),
-        },
-        NodeType::Null => give_input(alloc, net, loaded, node, 0, left, kept),
-        NodeType::Switch => {
-            let input = net.switch_input(node);
-            give_input(alloc, net, loaded, node, input, left, kept)
-        }
-        _ => Err(CookEnd::Fault {
-            node,
-            fault: Fault::NotYet,
-        }),
-    }
-}
-
-/// The geometry that is wired into an input that a node needs and uses first.
-#[cycle(cook)]
-fn give_input(
-    alloc: Global,
-    net: &Net,
-    loaded: &Loaded,
-    node: NodeId,
-    input: u32,
-    left: u32,
-    kept: &mut Kept,
-) -> Result<Geo, CookEnd>
-    requires live { IsLive net.now.nodes node }
-    requires within { Within (used_sources net.now.nodes) left node }
-    requires kept { IsKept (cook_of (file_in loaded.now) net.now.nodes) net.now.nodes kept.old }
-    ensures kept { IsKept (cook_of (file_in loaded.now) net.now.nodes) net.now.nodes kept.new }
-    ensures tells { Tells (given (cook_of (file_in loaded.now) net.now.nodes) node input (wire_at (used_wires (node_of net.now.nodes node)) 0)) result }
-    ensures ready { IfOk result IsReady }
-{
-    net.is_network();
-    match net.used_source(node, 0) {
-        Some(source) => give(alloc, net, loaded, source, left - 1, kept),
-        None => Err(CookEnd::Fault {
-            node,
-            fault: Fault::NoInput(input),
-        }),
-    }
-}
-
-/// The geometries that are wired into a node that uses all of its inputs, by rising input number.
-#[cycle(cook)]
-fn gather(
-    alloc: Global,
-    net: &Net,
-    loaded: &Loaded,
-    node: NodeId,
-    left: u32,
-    kept: &mut Kept,
-) -> Result<Vec<Geo>, CookEnd>
-    requires live { IsLive net.now.nodes node }
-    requires within { Within (used_sources net.now.nodes) left node }
-    requires inputs { length (used_wires (node_of net.now.nodes node)) ≤ 32 }
-    requires kept { IsKept (cook_of (file_in loaded.now) net.now.nodes) net.now.nodes kept.old }
-    ensures kept { IsKept (cook_of (file_in loaded.now) net.now.nodes) net.now.nodes kept.new }
-    ensures tells { TellsAll (gathered (cook_of (file_in loaded.now) net.now.nodes) (used_wires (node_of net.now.nodes node))) result }
-    ensures ready { IfOk result (λ geos. All IsReady geos.items) }
-{
-    net.is_network();
-    let mut geos = Vec::new(alloc);
-    for input in 0..MOST_INPUTS {
-        if let Some(source) = net.used_source(node, input) {
-            let geo = match give(alloc, net, loaded, source, left - 1, kept) {
-                Ok(geo) => geo,
-                Err(end) => return Err(end),
-            };
-            match geos.push(geo) {
-                Ok(()) => {}
-                Err(_) => return Err(CookEnd::Memory),
-            }
-        }
-    }
-    Ok(geos)
-}
-
-/// Cooks a node of a network: its geometry, exactly as the serial cook defines it, or exactly its fault with the fault's node.
-///
-/// Each node that it needs is cooked once, inputs before the node. A file that has no load counts as missing.
-pub fn cook(alloc: Global, net: &Net, node: NodeId, loaded: &Loaded) -> Result<Geo, CookEnd>
-    requires { IsLive net.now.nodes node }
-    ensures tells { Tells (cook_of (file_in loaded.now) net.now.nodes node) result }
-    ensures ready { IfOk result IsReady }
-    ensures at { IfErr result (IsAtLive net.now.nodes) }
-{
-    net.is_network();
-    let nodes = net.nodes();
-    let mut kept = match start(alloc, net, node) {
-        Ok(kept) => kept,
-        Err(_) => return Err(CookEnd::Memory),
-    };
-    give(alloc, net, loaded, node, nodes, &mut kept)
-}
-
-/// What is kept before any node was cooked.
-fn start(alloc: Global, net: &Net, node: NodeId) -> Result<Kept, AllocError>
-    requires { IsLive net.now.nodes node }
-    ensures uses { IfOk result (λ kept. length kept.uses.items ≡ length net.now.nodes) }
-    ensures geos { IfOk result (λ kept. AreNone (length net.now.nodes) kept.geos.items) }
-{
-    Ok(Kept {
-        uses: uses_of(alloc, net, node)?,
-        geos: no_geos(alloc, net.nodes() as usize)?,
-    })
-}
-
-/// So many places without a geometry.
-fn no_geos(alloc: Global, count: usize) -> Result<Vec<Option<Geo>>, AllocError>
-    ensures { IfOk result (λ places. AreNone count places.items) }
-{
-    let mut places = Vec::with_capacity(alloc, count)?;
-    for _ in 0..count {
-        places.push(None)?;
-    }
-    Ok(places)
 }

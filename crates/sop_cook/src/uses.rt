@@ -1,13 +1,21 @@
-// How often each node is used in a cook, so that a geometry is copied only where a later use is left.
-ghost use Rattle.std.specs.Prelude.{◌≡◌, ◌≤◌, length, IfOk};
+//! How often each node is used in a cook, so that a geometry is copied only where a later use is left.
+ghost use Rattle.std.specs.Prelude.{◌≡◌, length, IfOk};
 ghost use Rattle.sop_net.specs.Network.{IsLive, used_sources};
 ghost use Rattle.sop_net.specs.Graph.{Within};
 
 use sop_net::{Net, NodeId};
 use std::alloc::{AllocError, Global};
 
-/// The greatest number of inputs of a node.
-pub(crate) const MOST_INPUTS: u32 = 32;
+/// How often each node is used in a cook of `node`, by its place.
+pub fn uses_of(alloc: Global, net: &Net, node: NodeId) -> Result<Vec<u32>, AllocError>
+    requires { IsLive net.now.nodes node }
+    ensures { IfOk result (λ uses. length uses.items ≡ length net.now.nodes) }
+{
+    net.is_network();
+    let mut uses = vec![in alloc; 0; net.nodes() as usize]?;
+    count(net, node, net.nodes(), &mut uses);
+    Ok(uses)
+}
 
 /// Counts a use of a node, and at the first one those of its sources. `left` bounds the ways upstream.
 fn count(net: &Net, node: NodeId, left: u32, uses: &mut [u32])
@@ -22,20 +30,10 @@ fn count(net: &Net, node: NodeId, left: u32, uses: &mut [u32])
         return;
     }
     net.is_network();
-    for input in 0..MOST_INPUTS {
-        if let Some(source) = net.used_source(node, input) {
+    let wires = net.used_wires(node);
+    for wire in wires {
+        if let Some(source) = *wire {
             count(net, source, left - 1, uses);
         }
     }
-}
-
-/// How often each node is used in a cook of `node`, by its place.
-pub fn uses_of(alloc: Global, net: &Net, node: NodeId) -> Result<Vec<u32>, AllocError>
-    requires { IsLive net.now.nodes node }
-    ensures { IfOk result (λ uses. length uses.items ≡ length net.now.nodes) }
-{
-    net.is_network();
-    let mut uses = vec![in alloc; 0; net.nodes() as usize]?;
-    count(net, node, net.nodes(), &mut uses);
-    Ok(uses)
 }

@@ -1,5 +1,7 @@
 use Rattle.std.proofs.Common.{◌≡◌, ◌≤◌, ◌++◌, sym, ◌∙◌, subst, ap, arith, length, map, List}
 use Rattle.sop_model.specs.declared.geo.Primitive.{Primitive}
+use Rattle.sop_model.specs.Limits.{most_points}
+use Rattle.sop_model.proofs.LimitsLemmas.{within_points, fits_within}
 use Rattle.sop_model.specs.Plain.{plain_append, shifted_prim}
 use Rattle.sop_cook.specs.Keeping.{IsReady}
 use Rattle.sop_cook.proofs.ReadyLemmas.{IsReady-append, small_points}
@@ -7,8 +9,8 @@ use Rattle.sop_cook.proofs.merge.append.Goals as goal
 
 pub append_prims-requires : goal.append_prims-requires
 append_prims-requires c =
-    let points = c.requires.into.fits.within.points in
-    let few : c.count-before.result ≤ 1000000 = omega (arith, points, c.count-before.ensures) in
+    let points = within_points (fits_within c.requires.into.fits) in
+    let few : c.count-before.result ≤ most_points = omega (arith, points, c.count-before.ensures) in
     small_points c.count-before.result c.args.from few c.requires.from
 
 pub returns-clause-ready : goal.returns-clause-ready

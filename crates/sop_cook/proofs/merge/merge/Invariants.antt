@@ -1,5 +1,6 @@
-use Rattle.sop_cook.proofs.CookLemmas.{Merged}
+use Rattle.sop_cook.specs.Made.{given}
+use Rattle.sop_cook.specs.Keeping.{Merged}
 use Rattle.sop_cook.proofs.merge.merge.Given as goal
 
-abbrev pub invariant-loop-geo : goal.invariant-loop-geo
-invariant-loop-geo l = Merged l.yielded l.into
+abbrev pub invariant-loop-input : goal.invariant-loop-input
+invariant-loop-input l = Merged (given l.yielded) l.into

@@ -1,28 +1,48 @@
-use Rattle.sop_cook.specs.SerialCook.{cook_of}
-use Rattle.sop_cook.specs.Loads.{file_in}
-use Rattle.sop_cook.proofs.KeptLemmas.{kept_none}
-use Rattle.std.proofs.Common.{◌≡◌}
-use Rattle.std.specs.Prelude.{Result, Ok, Err, IfErr, List}
+use Rattle.std.proofs.Common.{◌≡◌, ℕ, ◌∙◌, ap}
+use Rattle.std.specs.Prelude.{Result, Ok, Err, IfErr}
 use Rattle.sop_model.specs.declared.geo.Geo.{Geo}
-use Rattle.sop_net.specs.declared.node.Node.{Node}
-use Rattle.sop_net.specs.Network.{IsLive}
+use Rattle.sop_model.specs.declared.fault.Fault.{Fault}
+use Rattle.sop_model.specs.declared.fault.Fault.TheVariants as fault
 use Rattle.sop_cook.specs.declared.cook_end.CookEnd.{CookEnd}
 use Rattle.sop_cook.specs.declared.cook_end.CookEnd.TheVariants as end
-use Rattle.sop_cook.specs.SerialCook.{Outcome, Failure, failed}
-use Rattle.sop_cook.specs.Keeping.{Tells, IsAtLive}
-use Rattle.sop_cook.proofs.SerialCookLemmas.{failure_live}
+use Rattle.sop_cook.specs.Loads.{file_in}
+use Rattle.sop_cook.specs.Visit.{Outcome, failed}
+use Rattle.sop_cook.specs.SerialCook.{cook_of}
+use Rattle.sop_cook.specs.Laws.{IsMissing}
+use Rattle.sop_cook.specs.Keeping.{Tells, IsAtLive, HasNamedNode}
+use Rattle.sop_cook.proofs.KeptLemmas.{kept_none}
+use Rattle.sop_cook.proofs.SerialCookLemmas.{failure_live, failure_named, no_file}
 use Rattle.sop_cook.proofs.serial.cook.Goals as goal
 
-pub give-requires-clause-kept : goal.give-requires-clause-kept
-give-requires-clause-kept c =
-    kept_none (cook_of (file_in c.args.loaded.now) c.args.net.now.nodes) c.args.net.now.nodes c.in-Ok.kept c.in-Ok.ensures.uses c.in-Ok.ensures.geos
+-- what holds of each fault that may be told
+told_err : (P : CookEnd → Type 0) (outcome : Outcome) (answer : Result Geo CookEnd) → Tells outcome answer → ((x : ℕ) (f : Fault) → outcome ≡ Err (failed x f) → P (end.Fault x f)) → P end.Memory → IfErr answer P
+told_err P outcome (Ok g) tells each memory = tt
+told_err P outcome (Err (end.Fault x f)) tells each memory = each x f tells
+told_err P outcome (Err end.Memory) tells each memory = memory
 
-told_live : (nodes : List Node) (outcome : Outcome) (answer : Result Geo CookEnd) → Tells outcome answer → ((f : Failure) → outcome ≡ Err f → IsLive nodes f.node) → IfErr answer (IsAtLive nodes)
-told_live nodes outcome (Ok g) tells each = tt
-told_live nodes outcome (Err (end.Fault x f)) tells each = each (failed x f) tells
-told_live nodes outcome (Err end.Memory) tells each = tt
+pub give-requires-clause-running : goal.give-requires-clause-running
+give-requires-clause-running c = kept_none (cook_of (file_in c.args.loaded.now) c.args.net.now.nodes) c.args.net.now.nodes c.in-Ok.kept c.in-Ok.ensures.uses c.in-Ok.ensures.geos
 
 pub returns-clause-at : goal.returns-clause-at
 returns-clause-at c =
-    told_live c.args.net.now.nodes (cook_of (file_in c.args.loaded.now) c.args.net.now.nodes c.args.node) c.give.result c.give.ensures.tells
-    (failure_live (file_in c.args.loaded.now) c.args.net.now.nodes c.is_network.ensures.used_live c.args.node c.requires)
+    let files = file_in c.args.loaded.now in
+    let nodes = c.args.net.now.nodes in
+    told_err (IsAtLive nodes) (cook_of files nodes c.args.node) c.give.result c.give.ensures.tells
+    (λ x f is. failure_live files nodes c.args.node (c.is_network.ensures.within_used c.args.node c.requires) c.is_network.ensures.used_live c.requires (failed x f) is) tt
+
+pub returns-clause-no_file : goal.returns-clause-no_file
+returns-clause-no_file c =
+    let files = file_in c.args.loaded.now in
+    let nodes = c.args.net.now.nodes in
+    told_err (λ e. (x : ℕ) → e ≡ end.Fault x fault.NoFile → IsMissing files nodes c.args.node x) (cook_of files nodes c.args.node) c.give.result c.give.ensures.tells
+    (λ y f is x e.
+    let same : failed y f ≡ failed x fault.NoFile = cc in
+    no_file files nodes c.args.node (c.is_network.ensures.within_used c.args.node c.requires) x (is ∙ ap Err same))
+    (λ x e. let no : ⊥ = cc in absurd no)
+
+pub returns-clause-named : goal.returns-clause-named
+returns-clause-named c =
+    let files = file_in c.args.loaded.now in
+    let nodes = c.args.net.now.nodes in
+    told_err HasNamedNode (cook_of files nodes c.args.node) c.give.result c.give.ensures.tells
+    (λ x f is. failure_named files nodes c.args.node (c.is_network.ensures.within_used c.args.node c.requires) (failed x f) is) tt

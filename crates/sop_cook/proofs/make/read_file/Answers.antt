@@ -1,9 +1,9 @@
 use Rattle.std.proofs.Common.{sym, ◌∙◌, ap, subst}
 use Rattle.sop_cook.specs.declared.loaded.LoadedFile.TheVariants.{Bytes}
-use Rattle.sop_cook.specs.SerialCook.{file_geo}
+use Rattle.sop_cook.specs.Made.{file_geo}
 use Rattle.sop_cook.specs.Keeping.{TellsMade}
 use Rattle.sop_cook.proofs.LoadsLemmas.{file_known}
-use Rattle.sop_cook.proofs.serial.read_file.Goals as goal
+use Rattle.sop_cook.proofs.make.read_file.Goals as goal
 
 pub returns-in-Some-Bytes-clause-tells : goal.returns-in-Some-Bytes-clause-tells
 returns-in-Some-Bytes-clause-tells c =

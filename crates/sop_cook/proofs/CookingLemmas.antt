@@ -1,0 +1,53 @@
+-- A cook that goes on.
+use Rattle.std.proofs.Common.{◌≡◌, ℕ, zero, suc, ◌<◌, List, [], ◌∷◌, length, get_or, refl, sym, ◌∙◌, ap, subst, arith}
+use Rattle.std.specs.Prelude.{Option, None, Some, IfSome, Contains, option_map}
+use Rattle.sop_net.specs.Network.{node_of, wired, wire_at, used_wires, used_sources}
+use Rattle.sop_net.specs.Sockets.{Socket, sockets_of}
+use Rattle.sop_net.proofs.UsedLemmas.{wired_at}
+use Rattle.sop_net.specs.declared.node.Node.{Node}
+use Rattle.sop_cook.specs.declared.serial.Cooking.{Cooking}
+use Rattle.sop_cook.specs.Loads.{file_in}
+use Rattle.sop_cook.specs.Visit.{Outcome}
+use Rattle.sop_cook.specs.SerialCook.{cook_of}
+use Rattle.sop_cook.specs.Keeping.{IsKept}
+use Rattle.sop_cook.specs.Cooking.{nodes_of, gives, IsRunning, RunsOn}
+
+pub same_gives : (a b : Cooking) → b.net.now ≡ a.net.now → b.loaded.now ≡ a.loaded.now → ◌≡◌ {A = ℕ → Outcome} (gives b) (gives a)
+same_gives a b net loaded =
+    ap (λ n. λ (x : ℕ). cook_of (file_in b.loaded.now) n.nodes x) net ∙ ap (λ l. λ (x : ℕ). cook_of (file_in l) a.net.now.nodes x) loaded
+
+pub same_nodes : (a b : Cooking) → b.net.now ≡ a.net.now → nodes_of b ≡ nodes_of a
+same_nodes a b net = ap (λ n. n.nodes) net
+
+-- only what is kept changes
+pub runs_with : (a b : Cooking) → b.net.now ≡ a.net.now → b.loaded.now ≡ a.loaded.now → IsKept (gives a) (nodes_of a) b.kept → RunsOn a b
+runs_with a b net loaded kept = record {
+  net = net;
+  loaded = loaded;
+  running =
+      subst (λ (go : ℕ → Outcome). IsKept go (nodes_of b) b.kept) (sym (same_gives a b net loaded))
+      (subst (λ nodes. IsKept (gives a) nodes b.kept) (sym (same_nodes a b net)) kept);
+}
+
+pub stays : (a : Cooking) → IsRunning a → RunsOn a a
+stays a running = record { net = refl; loaded = refl; running = running }
+
+pub went_on : (a b c : Cooking) → RunsOn a b → RunsOn b c → RunsOn a c
+went_on a b c first then = record { net = then.net ∙ first.net; loaded = then.loaded ∙ first.loaded; running = then.running }
+
+-- what holds of a node's sockets
+pub sockets_known : (P : List Socket → Type 0) (found : Option Node) (sockets : List Socket) → option_map sockets_of found ≡ Some sockets → P sockets → IfSome found (λ n. P (sockets_of n))
+sockets_known P None sockets h p = tt
+sockets_known P (Some n) sockets h p = let same : sockets_of n ≡ sockets = cc in subst P (sym same) p
+
+wire_there : (wires : List (Option ℕ)) (i : ℕ) (d : Option ℕ) → i < length wires → wire_at wires i ≡ get_or wires i d
+wire_there [] i d lt = absurd (omega (arith, lt))
+wire_there (wire ∷ wires) zero d lt = refl
+wire_there (wire ∷ wires) (suc i) d lt = wire_there wires i d (omega (arith, lt))
+
+-- the source of a wire that a node uses
+pub source_there : (nodes : List Node) (x i : ℕ) (wires : List (Option ℕ)) (wire d : Option ℕ) → wires ≡ used_wires (node_of nodes x) → i < length wires → wire ≡ get_or wires i d
+    → IfSome wire (λ source. Contains (used_sources nodes x) source)
+source_there nodes x i wires None d used lt is = tt
+source_there nodes x i wires (Some source) d used lt is =
+    subst (λ ws. Contains (wired ws) source) used (wired_at wires i source (wire_there wires i d lt ∙ sym is))
