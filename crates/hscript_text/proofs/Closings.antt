@@ -8,7 +8,7 @@ use Rattle.std.proofs.lemmas.List.{drop_more, drop_all}
 use Rattle.std.proofs.lemmas.List.Sums.{passes_at_first}
 use Rattle.std.specs.List.{position_or_len}
 use Rattle.hscript_text.specs.Words.{unescaped_quote}
-use Rattle.hscript_text.specs.Reading.{IsEnd}
+use Rattle.hscript_text.specs.Parts.{IsEnd}
 
 -- a place in a text that stands so many bytes further on
 abbrev pub further : ℕ → Option ℕ → Option ℕ

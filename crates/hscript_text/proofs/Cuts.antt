@@ -15,8 +15,8 @@ use Rattle.hscript_text.specs.declared.style.Style.{Style}
 use Rattle.hscript_text.specs.declared.style.Style.TheVariants.{Bare, Single, Double}
 use Rattle.hscript_text.specs.Pieces.{name_len, begins, escape_of, is_plain}
 use Rattle.hscript_text.specs.Words.{is_bare}
-use Rattle.hscript_text.specs.declared.verb.Start.TheVariants.{Between, Command}
-use Rattle.hscript_text.specs.Script.{is_line_end, start_of}
+use Rattle.hscript_text.specs.declared.start.Start.TheVariants.{Between, Command}
+use Rattle.hscript_text.specs.Reading.{is_line_end, start_of}
 
 continues_ascii : (b : ℕ) → continues_name b ≡ true → b < 128
 continues_ascii b h = grind (arith, common_steps)

@@ -1,16 +1,18 @@
 -- Worked examples of command files.
 use Rattle.std.proofs.Common.{◌≡◌, ℕ, List, [], ◌∷◌, ◌++◌, refl}
-use Rattle.std.specs.Prelude.{Result, Ok, Err, codes, replicate}
+use Rattle.std.specs.Prelude.{Some, Result, Ok, Err, codes, replicate}
 use Rattle.std.specs.Str.{is_utf8, chars}
 use lib.Utf8.{encode}
 use Rattle.std.specs.Str.Lossy.{utf8_valid_len}
 use Rattle.sop_net.specs.Network.{empty_network, new_node}
 use Rattle.sop_net.specs.declared.node_type.NodeType.TheVariants as type
-use Rattle.hscript_text.specs.declared.kind.ScriptKind.{ScriptKind}
-use Rattle.hscript_text.specs.declared.kind.ScriptKind.TheVariants.{BadBytes, Quote, NoVar, LongWord, BadCommand, BadArgs, BadName, NameTaken, NoType, Cycle}
+use Rattle.hscript_text.specs.declared.refusal.ScriptKind.{ScriptKind}
+use Rattle.hscript_text.specs.declared.refusal.ScriptKind.TheVariants.{BadBytes, Quote, NoVar, LongWord, BadCommand, BadArgs, BadName, NameTaken, NoType, Cycle}
 use Rattle.hscript_text.specs.declared.script.Script.{Script}
 use Rattle.hscript_text.specs.declared.style.Style.TheVariants.{Bare, Double}
 use Rattle.hscript_text.specs.Pieces.{no_variables, word_within}
+use Rattle.hscript_text.specs.Reading.{reading_of}
+use Rattle.hscript_text.specs.Commands.{carried_out}
 use Rattle.hscript_text.specs.Script.{script_of}
 
 abbrev echoed : List ℕ → Result Script (ℕ × ScriptKind)
@@ -183,3 +185,18 @@ too_long = refl
 
 refused_before : word_within Double no_variables 2 0 (codes "ab\\q") ≡ Err Quote
 refused_before = refl
+
+-- the reader carries out `set`, and gives the commands up to the first that can't be read
+
+read_one_by_one : reading_of (codes "set a = 'x y'\n\nopadd null n\necho $a z\nopadd $b\n")
+    ≡ record {
+      commands = record { line = 3; words = codes "opadd" ∷ codes "null" ∷ codes "n" ∷ [] } ∷ record { line = 4; words = codes "echo" ∷ codes "x y" ∷ codes "z" ∷ [] } ∷ [];
+      refusal = Some (5, NoVar);
+    }
+unfolding is_utf8 chars encode
+read_one_by_one = refl
+
+-- a network takes its own commands alone
+
+no_echo : carried_out empty_network (codes "echo" ∷ codes "a" ∷ []) ≡ Err BadCommand
+no_echo = refl

@@ -2,9 +2,8 @@ pub mod Cuts
 pub mod Pieces
 pub mod Growth
 pub mod Closings
-pub mod Commands
+pub mod Lines
 pub mod Openings
 pub mod Echoing
-pub mod Scripts
+pub mod Readings
 pub mod Examples
-pub mod NoMemory

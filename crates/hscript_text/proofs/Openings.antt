@@ -10,7 +10,7 @@ use Rattle.hscript_text.specs.declared.style.Opening.{Opening}
 use Rattle.hscript_text.specs.declared.style.Opening.TheVariants as opening
 use Rattle.hscript_text.specs.Pieces.{Variables}
 use Rattle.hscript_text.specs.Words.{Taken, opening_of, quoted, first_word, unescaped_quote}
-use Rattle.hscript_text.specs.Reading.{IsRead}
+use Rattle.hscript_text.specs.Parts.{IsRead}
 use Rattle.hscript_text.proofs.Cuts.{behind_byte}
 
 large_bare : (b : ℕ) → 128 ≤ b → opening_of b ≡ opening.Word Bare

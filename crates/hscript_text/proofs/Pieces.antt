@@ -3,7 +3,7 @@ use Rattle.std.proofs.Common.{◌≡◌, ℕ, ◌+◌, List, take, drop, refl, a
 use Rattle.std.proofs.lemmas.Bool.{ne_eqb}
 use Rattle.std.proofs.lemmas.List.{drop-drop}
 use Rattle.hscript_text.specs.Pieces.{Variables, name_len, begins, braced, variable}
-use Rattle.hscript_text.specs.Reading.{IsTaken}
+use Rattle.hscript_text.specs.Parts.{IsTaken}
 
 pub braced_taken : (variables : Variables) (text word after rest : List ℕ) (n : ℕ) → n ≡ name_len text → (n ≡ 0 → ⊥) → begins 125 after ≡ true → after ≡ drop n text → rest ≡ drop 1 after
     → variables (take n text) ≡ Some word → IsTaken (braced variables (name_len text) text) word text rest 2

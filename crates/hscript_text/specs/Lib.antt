@@ -1,6 +1,9 @@
-pub mod KindNames
+pub mod Limits
+pub mod RefusalNames
 pub mod Pieces
 pub mod Words
-pub mod Effects
-pub mod Script
 pub mod Reading
+pub mod Commands
+pub mod Script
+pub mod Ends
+pub mod Parts

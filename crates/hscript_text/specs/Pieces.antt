@@ -1,9 +1,11 @@
 -- What a word's text means, piece by piece: a byte that stands for itself, an escape or a variable.
 use Rattle.std.specs.Prelude.{ℕ, zero, suc, ◌+◌, ◌-◌, Bool, true, false, if◌then◌else◌, ◌&&◌, ◌||◌, not, ◌==◌, nat_le, List, [], ◌∷◌, ◌++◌, length, take, drop, min, Option, None, Some, Result, Ok, Err, bytes_eq}
 use Rattle.std.specs.List.{prefix_len}
+use Rattle.sop_model.specs.Limits.{most_name_bytes}
 use Rattle.sop_model.specs.Names.{starts_name, continues_name}
-use Rattle.hscript_text.specs.declared.kind.ScriptKind.{ScriptKind}
-use Rattle.hscript_text.specs.declared.kind.ScriptKind.TheVariants.{Quote, NoVar, LongWord}
+use Rattle.hscript_text.specs.Limits.{most_word_bytes}
+use Rattle.hscript_text.specs.declared.refusal.ScriptKind.{ScriptKind}
+use Rattle.hscript_text.specs.declared.refusal.ScriptKind.TheVariants.{Quote, NoVar, LongWord}
 use Rattle.hscript_text.specs.declared.style.Style.{Style}
 use Rattle.hscript_text.specs.declared.style.Style.TheVariants.{Bare, Single, Double}
 
@@ -25,7 +27,7 @@ Piece = Result (List ℕ × ℕ) ScriptKind
 -- The length of the longest name of at most 64 bytes that a text begins with, or 0 where none does.
 abbrev pub name_len : List ℕ → ℕ
 name_len [] = 0
-name_len (b ∷ text) = if starts_name b then min 64 (prefix_len continues_name (b ∷ text)) else 0
+name_len (b ∷ text) = if starts_name b then min most_name_bytes (prefix_len continues_name (b ∷ text)) else 0
 
 -- A variable's text in place of so many bytes. An unknown variable is refused.
 abbrev pub replaced : Option (List ℕ) → ℕ → Piece
@@ -88,11 +90,11 @@ Word = Result (List ℕ) ScriptKind
 
 abbrev pub behind : List ℕ → Word → Word
 behind bytes (Ok word) = Ok (bytes ++ word)
-behind bytes (Err kind) = Err kind
+behind bytes (Err refusal) = Err refusal
 
 -- A word that begins with a piece, in so much room. The piece may be refused or not fit.
 abbrev pub with_piece : Piece → ℕ → (ℕ → ℕ → Word) → Word
-with_piece (Err kind) room rest = Err kind
+with_piece (Err refusal) room rest = Err refusal
 with_piece (Ok p) room rest = if nat_le (length p.0) room then behind p.0 (rest (room - length p.0) (p.1 - 1)) else Err LongWord
 
 -- What the pieces of a text give, one after the other, in so much room. The first that is refused or doesn't fit refuses the word.
@@ -102,6 +104,5 @@ word_within style variables room skip [] = Ok []
 word_within style variables room (suc skip) (b ∷ text) = word_within style variables room skip text
 word_within style variables room zero (b ∷ text) = with_piece (piece style variables b text) room (λ left skip. word_within style variables left skip text)
 
--- A word has at most 65,536 bytes.
 abbrev pub word_of : Style → Variables → List ℕ → Word
-word_of style variables text = word_within style variables 65536 0 text
+word_of style variables text = word_within style variables most_word_bytes 0 text

@@ -1,96 +1,95 @@
--- What the parts of the reader ensure.
-use Rattle.std.specs.Prelude.{◌≡◌, ℕ, zero, suc, ◌+◌, ◌-◌, ◌<◌, ◌≤◌, List, [], ◌∷◌, ◌++◌, length, drop, slice_index, Option, None, Some, Result, Ok, Err}
-use Rattle.std.specs.BTreeMap.{get_by_text}
-use Rattle.sop_net.specs.declared.net_end.NetEnd.{NetEnd}
-use Rattle.sop_net.specs.declared.net_end.NetEnd.TheVariants as end
-use Rattle.hscript_text.specs.declared.kind.ScriptKind.{ScriptKind}
-use Rattle.hscript_text.specs.declared.kind.ScriptKind.TheVariants.{LongWord, Limit}
-use Rattle.hscript_text.specs.declared.kind.Stop.{Stop}
-use Rattle.hscript_text.specs.declared.kind.Stop.TheVariants.{Refused, Memory}
-use Rattle.hscript_text.specs.declared.style.Style.{Style}
-use Rattle.hscript_text.specs.declared.variables.Variables as texts
-use Rattle.hscript_text.specs.declared.reader.Reader.{Reader}
-use Rattle.hscript_text.specs.Pieces.{Variables, Piece, Word, behind, word_within}
-use Rattle.hscript_text.specs.Effects.{State, kind_of}
-use Rattle.hscript_text.specs.Script.{Outcome}
-use Rattle.hscript_text.specs.declared.script.ScriptEnd.{ScriptEnd}
-use Rattle.hscript_text.specs.declared.script.ScriptEnd.TheVariants as script_end
-use Rattle.hscript_text.specs.Words.{Taken, Command, with_words, command_from}
+-- The commands of a text, as the reader gives them: each with its line and its words after quotes and variables, up to the first that can't be
+-- read. The reader carries out `set` itself.
+--
+-- Lines end at LF and are counted from 1. A command's line is the one where its first word begins.
+use Rattle.std.specs.Prelude.{ℕ, zero, suc, ◌+◌, ◌-◌, Bool, true, false, if◌then◌else◌, ◌||◌, not, ◌==◌, List, [], ◌∷◌, length, take, Option, None, Some, Result, Ok, Err, codes, bytes_eq}
+use Rattle.std.specs.List.{prefix_len, filter}
+use Rattle.std.specs.Str.{is_utf8}
+use Rattle.std.specs.Str.Lossy.{utf8_valid_len}
+use Rattle.sop_model.specs.Names.{is_name}
+use Rattle.hscript_text.specs.declared.command.Command.{Command}
+use Rattle.hscript_text.specs.declared.refusal.ScriptKind.{ScriptKind}
+use Rattle.hscript_text.specs.declared.refusal.ScriptKind.TheVariants.{BadBytes, BadArgs, BadName}
+use Rattle.hscript_text.specs.declared.start.Start.{Start}
+use Rattle.hscript_text.specs.declared.start.Start.TheVariants as start
+use Rattle.hscript_text.specs.Pieces.{Variables, no_variables, with_variable}
+use Rattle.hscript_text.specs.Words.{Line, is_script_blank, command_of}
 
--- The variables of the reader.
-abbrev pub variables_of : texts.Variables → Variables
-variables_of v name = get_by_text v.texts name
+-- The commands up to the first that is refused in reading; the line of that one, and why.
+pub record Reading : Type 0 where
+  pub commands : List Command
+  pub refusal : Option (ℕ × ScriptKind)
 
--- A reader may stop so: as refused only with the kind that is meant.
-abbrev pub IsStop : {X : Type 0} → Result X ScriptKind → Stop → Type 0
-IsStop meant (Refused kind) = meant ≡ Err kind
-IsStop meant Memory = Unit {0}
+abbrev pub nothing : Reading
+nothing = record { commands = []; refusal = None }
 
--- A word grew by a text, which is refused where the word would pass 65,536 bytes.
-abbrev pub Adds : List ℕ → List ℕ → List ℕ → Result (Unit {0}) Stop → Type 0
-Adds old new text (Ok done) = (new ≡ old ++ text) × (length text ≤ 65536 - length old)
-Adds old new text (Err (Refused kind)) = (kind ≡ LongWord) × (65536 - length old < length text)
-Adds old new text (Err Memory) = Unit {0}
+abbrev pub refused : ℕ → ScriptKind → Reading
+refused line refusal = record { commands = []; refusal = Some (line, refusal) }
 
--- The echoed text grew by a text, which is refused where it would pass 1 MiB.
-abbrev pub Echoes : List ℕ → List ℕ → List ℕ → Result (Unit {0}) Stop → Type 0
-Echoes old new text (Ok done) = (new ≡ old ++ text) × (length new ≤ 1048576)
-Echoes old new text (Err (Refused kind)) = (kind ≡ Limit) × (1048576 < length old + length text)
-Echoes old new text (Err Memory) = Unit {0}
+abbrev pub followed : Command → Reading → Reading
+followed command reading = record { commands = command ∷ reading.commands; refusal = reading.refusal }
 
--- what stands before word `i` of a line
-abbrev pub between : ℕ → List ℕ
-between zero = []
-between (suc i) = 32 ∷ []
+abbrev pub is_line_end : ℕ → Bool
+is_line_end b = b == 10
 
--- how a step of the network that fails ends a command
-abbrev pub stop_of : NetEnd → Stop
-stop_of end.Memory = Memory
-stop_of other = Refused (kind_of other)
+abbrev pub line_ends : List ℕ → ℕ
+line_ends text = length (filter is_line_end text)
 
--- The word that a word so far and the pieces of a text make.
-abbrev pub grown : Style → Variables → List ℕ → List ℕ → Word
-grown style variables word text = behind word (word_within style variables (65536 - length word) 0 text)
+-- the line of a place
+abbrev pub line_of : List ℕ → ℕ → ℕ
+line_of text place = 1 + line_ends (take place text)
 
--- A piece gives these bytes and leaves this rest of a text, which stands so many bytes behind the piece's start.
-pub record IsTaken (piece : Piece) (bytes text rest : List ℕ) (before : ℕ) : Type 0 where
-  pub taken : ℕ
-  pub gives : piece ≡ Ok (bytes, taken + before)
-  pub leaves : rest ≡ drop taken text
+-- `set NAME = TEXT` sets a variable.
+abbrev pub set_variable : Variables → List ℕ → List ℕ → Result Variables ScriptKind
+set_variable variables name text = if is_name name then Ok (with_variable variables name text) else Err BadName
 
--- A text stands at the end of another.
-pub record IsRest (text rest : List ℕ) : Type 0 where
-  pub before : ℕ
-  pub inside : before ≤ length text
-  pub is : rest ≡ drop before text
+abbrev pub set : Variables → List (List ℕ) → Result Variables ScriptKind
+set variables (verb ∷ name ∷ sign ∷ text ∷ []) = if bytes_eq sign (codes "=") then set_variable variables name text else Err BadArgs
+set variables words = Err BadArgs
 
--- A word is read from a text, at least a byte, and leaves this rest. It began so many bytes before the text.
-pub record IsRead (taken : Taken) (word text rest : List ℕ) (before : ℕ) : Type 0 where
-  pub bytes : ℕ
-  pub gives : taken ≡ Ok (word, bytes + before)
-  pub leaves : rest ≡ drop bytes text
-  pub some : 0 < bytes + before
-  pub inside : bytes ≤ length text
+abbrev pub is_set : List (List ℕ) → Bool
+is_set [] = false
+is_set (verb ∷ words) = bytes_eq verb (codes "set")
 
--- The command that words so far and the words of a text make.
-abbrev pub joined : Variables → List (List ℕ) → List ℕ → Command
-joined variables words text = with_words words (command_from variables 0 text)
+abbrev pub with_variables : ℕ → Result Variables ScriptKind → (Variables → Reading) → Reading
+with_variables line (Ok variables) rest = rest variables
+with_variables line (Err refusal) rest = refused line refusal
 
--- If a closing quote was found, it stands at this place of the text, and is an ASCII byte.
-abbrev pub IsEnd : List ℕ → Option ℕ → Type 0
-IsEnd text None = Unit {0}
-IsEnd text (Some n) = (n < length text) × (slice_index text n < 128)
+-- The words of a command, which may be `set`, and what follows it.
+abbrev pub on_words : Bool → ℕ → Variables → List (List ℕ) → (Variables → Reading) → Reading
+on_words true line variables words rest = with_variables line (set variables words) rest
+on_words false line variables words rest = followed (record { line = line; words = words }) (rest variables)
 
--- The state of the reader.
-abbrev pub state_of : Reader → State
-state_of r = record { net = r.net; variables = variables_of r.variables; echoed = r.echoed }
+-- A command of a text with so many bytes behind its first.
+abbrev pub on_line : ℕ → ℕ → Variables → Line → (Variables → ℕ → Reading) → Reading
+on_line line size variables (Ok read) rest = on_words (is_set read.0) line variables read.0 (λ variables. rest variables (size - length read.1))
+on_line line size variables (Err refusal) rest = refused line refusal
 
--- how a command that fails in a line ends a script
-abbrev pub end_of : ℕ → Stop → ScriptEnd
-end_of line (Refused kind) = script_end.Refused line kind
-end_of line Memory = script_end.Memory
+-- What a byte begins between commands: nothing, as a blank and a line end do, a comment or a command. A `#` that a quote or a variable gives
+-- begins no comment.
+abbrev pub start_of : ℕ → Start
+start_of b = if is_script_blank b || is_line_end b then start.Between else if b == 35 then start.Comment else start.Command
 
--- Commands may end so in a line: as refused only with the line and the kind that are meant.
-abbrev pub IsOutcome : Outcome → ℕ → Stop → Type 0
-IsOutcome meant line (Refused kind) = meant ≡ Err (line, kind)
-IsOutcome meant line Memory = Unit {0}
+-- A comment runs to the end of its line.
+abbrev pub reading_at : Start → ℕ → Variables → ℕ → List ℕ → (Variables → ℕ → Reading) → Reading
+reading_at start.Between line variables b text rest = rest variables 0
+reading_at start.Comment line variables b text rest = rest variables (prefix_len (λ c. not (is_line_end c)) text)
+reading_at start.Command line variables b text rest = on_line line (length text) variables (command_of variables (b ∷ text)) rest
+
+abbrev pub line_behind : ℕ → ℕ → ℕ
+line_behind b line = if is_line_end b then line + 1 else line
+
+-- The commands of a text that begins in this line, one after the other.
+-- So many bytes are skipped first: they belong to the comment or the command before.
+abbrev pub reading_from : ℕ → Variables → ℕ → List ℕ → Reading
+reading_from line variables skip [] = nothing
+reading_from line variables (suc skip) (b ∷ text) = reading_from (line_behind b line) variables skip text
+reading_from line variables zero (b ∷ text) = reading_at (start_of b) line variables b text (λ variables skip. reading_from (line_behind b line) variables skip text)
+
+-- Bytes that aren't UTF-8 are refused before any command, in the line of the first byte of the first sequence that is none.
+abbrev pub reading_if : Bool → List ℕ → Reading
+reading_if true bytes = reading_from 1 no_variables 0 bytes
+reading_if false bytes = refused (line_of bytes (utf8_valid_len bytes)) BadBytes
+
+abbrev pub reading_of : List ℕ → Reading
+reading_of bytes = reading_if (is_utf8 bytes) bytes

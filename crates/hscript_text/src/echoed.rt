@@ -1,16 +1,13 @@
 // The echoed text.
 ghost use Rattle.std.specs.Prelude.{◌≡◌, ◌≤◌, ◌++◌, [], length};
-ghost use Rattle.hscript_text.specs.Effects.{line_of_words};
-ghost use Rattle.hscript_text.specs.Reading.{Echoes, between};
+ghost use Rattle.hscript_text.specs.Script.{line_of_words};
+ghost use Rattle.hscript_text.specs.Parts.{Echoes, between};
 
-use crate::kind::{ScriptKind, Stop};
-use crate::word::Word;
-use sop_outside::ByteList;
+use crate::limits::MOST_ECHOED_BYTES;
+use crate::refusal::{CommandEnd, ScriptKind};
+use sop_outside::{ByteList, Text};
 use std::alloc::Global;
 use std::marker::Model;
-
-/// The most bytes of the echoed text.
-const MAX_ECHOED: usize = 1_048_576;
 
 /// The echoed text, which contracts see as the list of its bytes, at most 1 MiB.
 #[derive(Drop)]
@@ -20,12 +17,13 @@ pub struct Echoed {
 
 impl Model for Echoed {
     ghost use Rattle.std.specs.Prelude.{List, ℕ, ◌≤◌, length};
+    ghost use Rattle.hscript_text.specs.Limits.{most_echoed_bytes};
 
     ghost Value = { List ℕ };
 
     ghost view = { λ e. e.bytes.items };
 
-    ghost invariant = { λ e. length e.bytes.items ≤ 1048576 };
+    ghost invariant = { λ e. length e.bytes.items ≤ most_echoed_bytes };
 }
 
 impl Echoed {
@@ -38,37 +36,37 @@ impl Echoed {
     }
 
     /// Adds bytes at the end. `Limit` where there is no room for them.
-    fn add(&mut self, bytes: &[u8]) -> Result<(), Stop>
+    fn add(&mut self, bytes: &[u8]) -> Result<(), CommandEnd>
         ensures { Echoes self.old self.new bytes.now result }
     {
-        if bytes.len() > MAX_ECHOED - self.bytes.len() {
-            return Err(Stop::Refused(ScriptKind::Limit));
+        if bytes.len() > MOST_ECHOED_BYTES - self.bytes.len() {
+            return Err(CommandEnd::Refused(ScriptKind::Limit));
         }
         self.bytes.extend_from_slice(bytes)?;
         Ok(())
     }
 
     /// Adds word `i` of a line: behind a blank, if it isn't the first.
-    fn add_word(&mut self, i: usize, word: &Word) -> Result<(), Stop>
+    fn add_word(&mut self, i: usize, word: &Text) -> Result<(), CommandEnd>
         ensures { Echoes self.old self.new (between i ++ word.now) result }
     {
         if i > 0 {
             match self.add(b" ") {
                 Ok(()) => {}
-                Err(stop) => return Err(stop),
+                Err(end) => return Err(end),
             }
         }
         self.add(word.as_str().as_bytes())
     }
 
     /// Adds the words with a blank between each two, and LF. `Limit` where there is no room for them.
-    pub fn echo(&mut self, words: &[Word]) -> Result<(), Stop>
+    pub fn echo(&mut self, words: &[Text]) -> Result<(), CommandEnd>
         ensures { Echoes self.old self.new (line_of_words words.now) result }
     {
         for (i, word) in words.iter().enumerate() {
             match self.add_word(i, word) {
                 Ok(()) => {}
-                Err(stop) => return Err(stop),
+                Err(end) => return Err(end),
             }
         }
         self.add(b"\n")

@@ -4,26 +4,15 @@ ghost use Rattle.std.specs.List.{prefix_len};
 ghost use Rattle.std.specs.Option.{option_copied, option_map};
 ghost use Rattle.sop_model.specs.Names.{starts_name, continues_name};
 ghost use Rattle.hscript_text.specs.Pieces.{name_len, begins, is_plain, escape_of, escape, variable, named, braced, word_of};
-ghost use Rattle.hscript_text.specs.Reading.{variables_of, grown, IsStop, IsTaken};
+ghost use Rattle.hscript_text.specs.Ends.{EndsAs};
+ghost use Rattle.hscript_text.specs.Parts.{variables_of, IsTaken};
 
 use crate::cut::cut;
-use crate::kind::{ScriptKind, Stop};
+use crate::refusal::{CommandEnd, ScriptKind};
 use crate::style::Style;
 use crate::variables::Variables;
-use crate::word::Word;
-use std::alloc::Global;
-
-pub fn starts_name(b: u8) -> bool
-    ensures { result ≡ starts_name b }
-{
-    b.is_ascii_alphabetic() || b == b'_'
-}
-
-pub fn continues_name(b: u8) -> bool
-    ensures { result ≡ continues_name b }
-{
-    starts_name(b) || b.is_ascii_digit()
-}
+use sop_model::limits::MOST_NAME_BYTES;
+use sop_model::{continues_name, starts_name};
 
 fn name_bytes(text: &[u8]) -> usize
     ensures { result ≡ prefix_len continues_name text.now }
@@ -36,24 +25,24 @@ fn name_len(text: &[u8]) -> usize
     ensures { result ≡ name_len text.now }
 {
     match text {
-        [b, ..] if starts_name(*b) => name_bytes(text).min(64),
+        [b, ..] if starts_name(*b) => name_bytes(text).min(MOST_NAME_BYTES),
         _ => 0,
     }
 }
 
 /// The variable whose name stands behind a `$`: its text, and the text behind the name.
-fn named<'v>(variables: &'v Variables, text: &'v str) -> Result<(&'v str, &'v str), Stop>
+fn named<'v>(variables: &'v Variables, text: &'v str) -> Result<(&'v str, &'v str), CommandEnd>
     ensures ok { IfOk result (λ v. IsTaken (named (variables_of variables.now) (name_len text.now) text.now) v.0.now text.now v.1.now 1) }
-    ensures err { IfErr result (λ stop. IsStop (named (variables_of variables.now) (name_len text.now) text.now) stop) }
+    ensures err { IfErr result (λ end. EndsAs (named (variables_of variables.now) (name_len text.now) text.now) end) }
 {
     let n = name_len(text.as_bytes());
     if n == 0 {
-        return Err(Stop::Refused(ScriptKind::NoVar));
+        return Err(CommandEnd::Refused(ScriptKind::NoVar));
     }
     let (name, rest) = cut(text, n);
     match variables.get(name) {
         Some(word) => Ok((word.as_str(), rest)),
-        None => Err(Stop::Refused(ScriptKind::NoVar)),
+        None => Err(CommandEnd::Refused(ScriptKind::NoVar)),
     }
 }
 
@@ -67,29 +56,32 @@ fn begins(b: u8, text: &str) -> bool
 }
 
 /// The variable whose name stands behind `${`: its text, and the text behind the `}`.
-fn braced<'v>(variables: &'v Variables, text: &'v str) -> Result<(&'v str, &'v str), Stop>
+fn braced<'v>(variables: &'v Variables, text: &'v str) -> Result<(&'v str, &'v str), CommandEnd>
     ensures ok { IfOk result (λ v. IsTaken (braced (variables_of variables.now) (name_len text.now) text.now) v.0.now text.now v.1.now 2) }
-    ensures err { IfErr result (λ stop. IsStop (braced (variables_of variables.now) (name_len text.now) text.now) stop) }
+    ensures err { IfErr result (λ end. EndsAs (braced (variables_of variables.now) (name_len text.now) text.now) end) }
 {
     let n = name_len(text.as_bytes());
     if n == 0 {
-        return Err(Stop::Refused(ScriptKind::NoVar));
+        return Err(CommandEnd::Refused(ScriptKind::NoVar));
     }
     let (name, after) = cut(text, n);
     if !begins(b'}', after) {
-        return Err(Stop::Refused(ScriptKind::NoVar));
+        return Err(CommandEnd::Refused(ScriptKind::NoVar));
     }
     let (_, rest) = cut(after, 1);
     match variables.get(name) {
         Some(word) => Ok((word.as_str(), rest)),
-        None => Err(Stop::Refused(ScriptKind::NoVar)),
+        None => Err(CommandEnd::Refused(ScriptKind::NoVar)),
     }
 }
 
 /// The variable behind a `$`: its text, and the text behind it.
-pub fn variable<'v>(variables: &'v Variables, text: &'v str) -> Result<(&'v str, &'v str), Stop>
+pub fn variable<'v>(
+    variables: &'v Variables,
+    text: &'v str,
+) -> Result<(&'v str, &'v str), CommandEnd>
     ensures ok { IfOk result (λ v. IsTaken (variable (variables_of variables.now) text.now) v.0.now text.now v.1.now 1) }
-    ensures err { IfErr result (λ stop. IsStop (variable (variables_of variables.now) text.now) stop) }
+    ensures err { IfErr result (λ end. EndsAs (variable (variables_of variables.now) text.now) end) }
 {
     if begins(b'{', text) {
         braced(variables, cut(text, 1).1)
@@ -112,15 +104,15 @@ fn escape_of(b: u8) -> Option<&'static str>
 }
 
 /// The escape behind a backslash: the byte that it gives, and the text behind it.
-pub fn escape(text: &str) -> Result<(&str, &str), Stop>
+pub fn escape(text: &str) -> Result<(&str, &str), CommandEnd>
     ensures ok { IfOk result (λ v. IsTaken (escape text.now) v.0.now text.now v.1.now 1) }
-    ensures err { IfErr result (λ stop. IsStop (escape text.now) stop) }
+    ensures err { IfErr result (λ end. EndsAs (escape text.now) end) }
 {
     match text.as_bytes() {
         [b, ..] => match escape_of(*b) {
             Some(byte) => Ok((byte, cut(text, 1).1)),
-            None => Err(Stop::Refused(ScriptKind::Quote)),
+            None => Err(CommandEnd::Refused(ScriptKind::Quote)),
         },
-        [] => Err(Stop::Refused(ScriptKind::Quote)),
+        [] => Err(CommandEnd::Refused(ScriptKind::Quote)),
     }
 }

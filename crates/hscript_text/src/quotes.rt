@@ -3,7 +3,7 @@ ghost use Rattle.std.specs.Prelude.{◌≡◌, ◌==◌, false, position};
 ghost use Rattle.std.specs.List.{prefix_len};
 ghost use Rattle.hscript_text.specs.Words.{is_bare, may_follow, unescaped_quote};
 
-use crate::style::{is_bare, is_blank};
+use crate::style::{is_bare, is_script_blank};
 
 /// The number of bytes of the bare word that a text begins with.
 pub fn bare_len(text: &[u8]) -> usize
@@ -17,7 +17,7 @@ pub fn may_follow(text: &[u8]) -> bool
     ensures { result ≡ may_follow text.now }
 {
     match text {
-        [b, ..] => is_blank(*b) || *b == b'\n',
+        [b, ..] => is_script_blank(*b) || *b == b'\n',
         [] => true,
     }
 }

@@ -1,159 +1,70 @@
-// The reader's state, and what commands do to it.
-ghost use Rattle.std.specs.Prelude.{◌≡◌, ◌<◌, Ok, OnOk, IfOk, IfErr, length, drop};
-ghost use Rattle.hscript_text.specs.Effects.{start, op_add, op_parm, op_wire, op_rm, set, echo, done, after};
-ghost use Rattle.hscript_text.specs.Words.{command_of};
-ghost use Rattle.hscript_text.specs.Script.{carried_out};
-ghost use Rattle.hscript_text.specs.Reading.{variables_of, state_of, IsStop, IsRest};
+// The reader of command files.
+ghost use Rattle.std.specs.Prelude.{◌≡◌, ◌≤◌, false, true, length, IfOk, IfErr, IfSome, IfNone, OnErr};
+ghost use Rattle.std.specs.Str.{is_utf8};
+ghost use Rattle.std.specs.Str.Lossy.{utf8_valid_len};
+ghost use Rattle.hscript_text.specs.Limits.{most_script_bytes};
+ghost use Rattle.hscript_text.specs.Reading.{line_of, reading_of, nothing, followed};
+ghost use Rattle.hscript_text.specs.Ends.{EndsReading};
 
-use crate::echoed::Echoed;
-use crate::effects::{stop_of, texts_of};
-use crate::kind::{ScriptKind, Stop};
+use crate::command::Command;
+use crate::refusal::{ScriptEnd, ScriptKind};
+use crate::unread::{Unread, line_ends, next_command};
 use crate::variables::Variables;
-use crate::verb::{Verb, is_name, verb_of};
-use crate::word::Word;
-use crate::words::read_command;
-use sop_net::Net;
 use std::alloc::Global;
+use std::marker::Model;
+use std::str;
 
-/// The network, the variables and the echoed text so far.
+/// Reads a command file one command after the other. Contracts see what is still to come: the commands up to the first that can't be read, and
+/// why it can't.
 #[derive(Drop)]
-pub struct Reader {
-    pub net: Net,
-    pub variables: Variables,
-    pub echoed: Echoed,
-    alloc: Global,
+pub struct Reader<'a> {
+    unread: Unread<'a>,
 }
 
-impl Reader {
-    pub fn new(alloc: Global) -> Reader
-        ensures { state_of result ≡ start }
+impl<'a> Model for Reader<'a> {
+    ghost use Rattle.hscript_text.specs.Reading.{Reading};
+    ghost use Rattle.hscript_text.specs.Parts.{reading_left, HasLines};
+
+    ghost Value = { Reading };
+
+    ghost view = { λ r. reading_left r.unread };
+
+    ghost invariant = { λ r. HasLines r.unread };
+}
+
+impl<'a> Reader<'a> {
+    /// A reader of these bytes, at most 4 MiB. The only refusal is `BadBytes`, for bytes that aren't UTF-8; no memory is taken.
+    pub fn new(alloc: Global, bytes: &'a [u8]) -> Result<Reader<'a>, ScriptEnd>
+        requires { length bytes.now ≤ most_script_bytes }
+        ensures ok { IfOk result (λ reader. (is_utf8 bytes.now ≡ true) × (reader ≡ reading_of bytes.now)) }
+        ensures refused { IfErr result (λ end. (is_utf8 bytes.now ≡ false) × (end ≡ ScriptEnd.Refused (line_of bytes.now (utf8_valid_len bytes.now)) ScriptKind.BadBytes)) }
     {
-        Reader {
-            net: Net::new(alloc),
-            variables: Variables::new(alloc),
-            echoed: Echoed::new(alloc),
-            alloc,
+        match str::from_utf8(bytes) {
+            Ok(text) => Ok(Reader {
+                unread: Unread {
+                    rest: text,
+                    line: 1,
+                    variables: Variables::new(alloc),
+                    alloc,
+                },
+            }),
+            Err(error) => Err(ScriptEnd::Refused {
+                line: 1 + line_ends(&bytes[..error.valid_up_to()]) as u32,
+                kind: ScriptKind::BadBytes,
+            }),
         }
     }
 
-    fn op_add(&mut self, words: &[Word]) -> Result<(), Stop>
-        ensures ok { OnOk result (op_add (state_of self.old) words.now ≡ Ok (state_of self.new)) }
-        ensures err { IfErr result (λ stop. IsStop (op_add (state_of self.old) words.now) stop) }
+    /// The next command, or None at the end of the text. `set` is carried out and given to nobody.
+    ///
+    /// `Quote`, `NoVar`, `LongWord`, and for `set` `BadArgs` and `BadName` come in the command's line; `Memory` comes for want of memory alone.
+    /// Then the same is still to come.
+    pub fn next(&mut self) -> Result<Option<Command>, ScriptEnd>
+        ensures some { IfOk result (λ next. IfSome next (λ command. self.old ≡ followed command self.new)) }
+        ensures none { IfOk result (λ next. IfNone next ((self.old ≡ nothing) × (self.new ≡ nothing))) }
+        ensures refused { IfErr result (λ end. EndsReading self.old end) }
+        ensures err { OnErr result (self.new ≡ self.old) }
     {
-        let [kind, name] = words else {
-            return Err(Stop::Refused(ScriptKind::BadArgs));
-        };
-        match self.net.add(kind.as_str(), name.as_str()) {
-            Ok(_) => Ok(()),
-            Err(end) => Err(stop_of(end)),
-        }
-    }
-
-    fn op_parm(&mut self, words: &[Word]) -> Result<(), Stop>
-        ensures ok { OnOk result (op_parm (state_of self.old) words.now ≡ Ok (state_of self.new)) }
-        ensures err { IfErr result (λ stop. IsStop (op_parm (state_of self.old) words.now) stop) }
-    {
-        let [node, pairs @ ..] = words else {
-            return Err(Stop::Refused(ScriptKind::BadArgs));
-        };
-        if pairs.len() < 2 || pairs.len() % 2 != 0 {
-            return Err(Stop::Refused(ScriptKind::BadArgs));
-        }
-        let pairs = texts_of(self.alloc, pairs)?;
-        match self.net.set_parms(node.as_str(), &pairs) {
-            Ok(()) => Ok(()),
-            Err(end) => Err(stop_of(end)),
-        }
-    }
-
-    fn op_wire(&mut self, words: &[Word]) -> Result<(), Stop>
-        ensures ok { OnOk result (op_wire (state_of self.old) words.now ≡ Ok (state_of self.new)) }
-        ensures err { IfErr result (λ stop. IsStop (op_wire (state_of self.old) words.now) stop) }
-    {
-        let [node, index, source] = words else {
-            return Err(Stop::Refused(ScriptKind::BadArgs));
-        };
-        match self
-            .net
-            .wire(node.as_str(), index.as_str(), source.as_str())
-        {
-            Ok(()) => Ok(()),
-            Err(end) => Err(stop_of(end)),
-        }
-    }
-
-    fn op_rm(&mut self, words: &[Word]) -> Result<(), Stop>
-        ensures ok { OnOk result (op_rm (state_of self.old) words.now ≡ Ok (state_of self.new)) }
-        ensures err { IfErr result (λ stop. IsStop (op_rm (state_of self.old) words.now) stop) }
-    {
-        let [node] = words else {
-            return Err(Stop::Refused(ScriptKind::BadArgs));
-        };
-        match self.net.remove(node.as_str()) {
-            Ok(()) => Ok(()),
-            Err(end) => Err(stop_of(end)),
-        }
-    }
-
-    fn echo(&mut self, words: &[Word]) -> Result<(), Stop>
-        ensures ok { OnOk result (echo (state_of self.old) words.now ≡ Ok (state_of self.new)) }
-        ensures err { IfErr result (λ stop. IsStop (echo (state_of self.old) words.now) stop) }
-    {
-        self.echoed.echo(words)
-    }
-
-    /// Takes the words with the command's name, and moves the last.
-    fn set(&mut self, mut words: Vec<Word>) -> Result<(), Stop>
-        ensures ok { OnOk result (set (state_of self.old) (drop 1 words.items) ≡ Ok (state_of self.new)) }
-        ensures err { IfErr result (λ stop. IsStop (set (state_of self.old) (drop 1 words.items)) stop) }
-    {
-        let Some(text) = words.pop() else {
-            return Err(Stop::Refused(ScriptKind::BadArgs));
-        };
-        match words.as_slice() {
-            [_, name, sign] if sign.as_str() == "=" => {
-                if !is_name(name.as_str().as_bytes()) {
-                    return Err(Stop::Refused(ScriptKind::BadName));
-                }
-                self.variables.set(name.as_str(), text)?;
-                Ok(())
-            }
-            _ => Err(Stop::Refused(ScriptKind::BadArgs)),
-        }
-    }
-
-    /// Carries out the command of these words.
-    fn carry_out(&mut self, words: Vec<Word>) -> Result<(), Stop>
-        ensures ok { OnOk result (after (state_of self.old) words.items ≡ Ok (state_of self.new)) }
-        ensures err { IfErr result (λ stop. IsStop (after (state_of self.old) words.items) stop) }
-    {
-        let [verb, rest @ ..] = words.as_slice() else {
-            return Ok(());
-        };
-        match verb_of(verb.as_str()) {
-            Some(Verb::OpAdd) => self.op_add(rest),
-            Some(Verb::OpParm) => self.op_parm(rest),
-            Some(Verb::OpWire) => self.op_wire(rest),
-            Some(Verb::OpRm) => self.op_rm(rest),
-            Some(Verb::Echo) => self.echo(rest),
-            Some(Verb::Set) => self.set(words),
-            None => Err(Stop::Refused(ScriptKind::BadCommand)),
-        }
-    }
-
-    /// Carries out the command that a text begins with, and answers the text behind its line.
-    pub fn read<'a>(&mut self, text: &'a str) -> Result<&'a str, Stop>
-        ensures ok { IfOk result (λ rest. carried_out (state_of self.old) (command_of (variables_of self.old.variables) text.now) ≡ Ok (state_of self.new, rest.now)) }
-        ensures rest { IfOk result (λ rest. IsRest text.now rest.now) }
-        ensures further { IfOk result (λ rest. 0 < length text.now → length rest.now < length text.now) }
-        ensures err { IfErr result (λ stop. IsStop (carried_out (state_of self.old) (command_of (variables_of self.old.variables) text.now)) stop) }
-    {
-        match read_command(self.alloc, &self.variables, text) {
-            Ok((words, rest)) => match self.carry_out(words) {
-                Ok(()) => Ok(rest),
-                Err(stop) => Err(stop),
-            },
-            Err(stop) => Err(stop),
-        }
+        next_command(&mut self.unread)
     }
 }

@@ -1,7 +1,7 @@
 // How words are written, and what begins between them.
 ghost use Rattle.std.specs.Prelude.{◌≡◌, IsTrue, IsFalse, ◌<◌};
 ghost use Rattle.hscript_text.specs.Pieces.{is_plain};
-ghost use Rattle.hscript_text.specs.Words.{is_blank, is_bare, style_of, opening_of};
+ghost use Rattle.hscript_text.specs.Words.{is_script_blank, is_bare, style_of, opening_of};
 
 /// How a word is written: as it stands, in single quotes or in double quotes.
 #[derive(Clone, Copy)]
@@ -32,8 +32,8 @@ impl Style {
     }
 }
 
-pub fn is_blank(b: u8) -> bool
-    ensures { result ≡ is_blank b }
+pub fn is_script_blank(b: u8) -> bool
+    ensures { result ≡ is_script_blank b }
 {
     b == b' ' || b == b'\t' || b == b'\r'
 }
@@ -42,7 +42,7 @@ pub fn is_blank(b: u8) -> bool
 pub fn is_bare(b: u8) -> bool
     ensures { result ≡ is_bare b }
 {
-    !(is_blank(b) || b == b'\n' || b == b'\'' || b == b'"')
+    !(is_script_blank(b) || b == b'\n' || b == b'\'' || b == b'"')
 }
 
 fn style_of(b: u8) -> Style
@@ -58,7 +58,7 @@ fn style_of(b: u8) -> Style
 pub fn opening_of(b: u8) -> Opening
     ensures { result ≡ opening_of b }
 {
-    if is_blank(b) {
+    if is_script_blank(b) {
         Opening::Blank
     } else if b == b'\n' {
         Opening::LineEnd

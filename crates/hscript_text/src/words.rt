@@ -4,56 +4,48 @@ ghost use Rattle.std.specs.Str.{IsUtf8};
 ghost use Rattle.hscript_text.specs.declared.style.Opening.TheVariants as opening;
 ghost use Rattle.hscript_text.specs.declared.style.Style.TheVariants as style;
 ghost use Rattle.hscript_text.specs.Words.{opening_of, bare, quoted, first_word, unescaped_quote, command_of};
-ghost use Rattle.hscript_text.specs.Reading.{variables_of, IsStop, IsRead, IsRest, IsEnd};
+ghost use Rattle.hscript_text.specs.Ends.{EndsAs};
+ghost use Rattle.hscript_text.specs.Parts.{variables_of, IsRead, IsRest, IsEnd};
 
 use crate::cut::cut;
-use crate::grow::word_of;
-use crate::kind::{ScriptKind, Stop};
 use crate::quotes::{bare_len, may_follow, single_quote, unescaped_quote};
+use crate::refusal::{CommandEnd, ScriptKind};
 use crate::style::{Opening, Style, opening_of};
 use crate::variables::Variables;
-use crate::word::Word;
+use crate::word::word_of;
+use sop_outside::Text;
 use std::alloc::Global;
 
-/// A bare word, and the text behind it.
-fn bare<'a>(alloc: Global, variables: &Variables, text: &'a str) -> Result<(Word, &'a str), Stop>
-    requires some { 0 < length text.now }
-    requires begins { opening_of (slice_index text.now 0) ≡ opening.Word style.Bare }
-    ensures ok { IfOk result (λ read. IsRead (bare (variables_of variables.now) text.now) read.0 text.now read.1.now 0) }
-    ensures utf8 { IfOk result (λ read. IsUtf8 read.1.now) }
-    ensures err { IfErr result (λ stop. IsStop (bare (variables_of variables.now) text.now) stop) }
-{
-    let (body, rest) = cut(text, bare_len(text.as_bytes()));
-    match word_of(alloc, Style::Bare, variables, body) {
-        Ok(word) if may_follow(rest.as_bytes()) => Ok((word, rest)),
-        Ok(_) => Err(Stop::Refused(ScriptKind::Quote)),
-        Err(stop) => Err(stop),
-    }
-}
-
-/// A quoted word by the text behind its opening quote and the place of the closing one there, and the text behind it.
-fn quoted<'a>(
+/// The words of the command that a text begins with, and the text behind its line.
+pub fn read_command<'a>(
     alloc: Global,
-    style: Style,
     variables: &Variables,
-    end: Option<usize>,
     text: &'a str,
-) -> Result<(Word, &'a str), Stop>
-    requires { IsEnd text.now end }
-    ensures ok { IfOk result (λ read. IsRead (quoted style (variables_of variables.now) end text.now) read.0 text.now read.1.now 1) }
-    ensures utf8 { IfOk result (λ read. IsUtf8 read.1.now) }
-    ensures err { IfErr result (λ stop. IsStop (quoted style (variables_of variables.now) end text.now) stop) }
+) -> Result<(Vec<Text>, &'a str), CommandEnd>
+    ensures ok { IfOk result (λ read. command_of (variables_of variables.now) text.now ≡ Ok (read.0.items, read.1.now)) }
+    ensures rest { IfOk result (λ read. IsRest text.now read.1.now) }
+    ensures further { IfOk result (λ read. 0 < length text.now → length read.1.now < length text.now) }
+    ensures err { IfErr result (λ end. EndsAs (command_of (variables_of variables.now) text.now) end) }
 {
-    let Some(n) = end else {
-        return Err(Stop::Refused(ScriptKind::Quote));
-    };
-    let (body, after) = cut(text, n);
-    let rest = cut(after, 1).1;
-    match word_of(alloc, style, variables, body) {
-        Ok(word) if may_follow(rest.as_bytes()) => Ok((word, rest)),
-        Ok(_) => Err(Stop::Refused(ScriptKind::Quote)),
-        Err(stop) => Err(stop),
+    let mut words = Vec::new(alloc);
+    let mut rest = text;
+    'words: while let [b, ..] = rest.as_bytes() {
+        match opening_of(*b) {
+            Opening::Blank => rest = cut(rest, 1).1,
+            Opening::LineEnd => return Ok((words, cut(rest, 1).1)),
+            Opening::Word(style) => {
+                let (word, behind) = match read_word(alloc, style, variables, rest) {
+                    Ok(read) => read,
+                    Err(end) => return Err(end),
+                };
+                match words.push(word) {
+                    Ok(()) => rest = behind,
+                    Err(_) => return Err(CommandEnd::Memory),
+                }
+            }
+        }
     }
+    Ok((words, rest))
 }
 
 /// The word of this style that a text begins with, and the text behind it.
@@ -62,12 +54,12 @@ fn read_word<'a>(
     style: Style,
     variables: &Variables,
     text: &'a str,
-) -> Result<(Word, &'a str), Stop>
+) -> Result<(Text, &'a str), CommandEnd>
     requires some { 0 < length text.now }
     requires begins { opening_of (slice_index text.now 0) ≡ opening.Word style }
     ensures ok { IfOk result (λ read. IsRead (first_word style (variables_of variables.now) text.now) read.0 text.now read.1.now 0) }
     ensures utf8 { IfOk result (λ read. IsUtf8 read.1.now) }
-    ensures err { IfErr result (λ stop. IsStop (first_word style (variables_of variables.now) text.now) stop) }
+    ensures err { IfErr result (λ end. EndsAs (first_word style (variables_of variables.now) text.now) end) }
 {
     match style {
         Style::Bare => bare(alloc, variables, text),
@@ -88,34 +80,47 @@ fn read_word<'a>(
     }
 }
 
-/// The words of the command that a text begins with, and the text behind its line.
-pub fn read_command<'a>(
+/// A bare word, and the text behind it.
+fn bare<'a>(
     alloc: Global,
     variables: &Variables,
     text: &'a str,
-) -> Result<(Vec<Word>, &'a str), Stop>
-    ensures ok { IfOk result (λ read. command_of (variables_of variables.now) text.now ≡ Ok (read.0.items, read.1.now)) }
-    ensures rest { IfOk result (λ read. IsRest text.now read.1.now) }
-    ensures further { IfOk result (λ read. 0 < length text.now → length read.1.now < length text.now) }
-    ensures err { IfErr result (λ stop. IsStop (command_of (variables_of variables.now) text.now) stop) }
+) -> Result<(Text, &'a str), CommandEnd>
+    requires some { 0 < length text.now }
+    requires begins { opening_of (slice_index text.now 0) ≡ opening.Word style.Bare }
+    ensures ok { IfOk result (λ read. IsRead (bare (variables_of variables.now) text.now) read.0 text.now read.1.now 0) }
+    ensures utf8 { IfOk result (λ read. IsUtf8 read.1.now) }
+    ensures err { IfErr result (λ end. EndsAs (bare (variables_of variables.now) text.now) end) }
 {
-    let mut words = Vec::new(alloc);
-    let mut rest = text;
-    'words: while let [b, ..] = rest.as_bytes() {
-        match opening_of(*b) {
-            Opening::Blank => rest = cut(rest, 1).1,
-            Opening::LineEnd => return Ok((words, cut(rest, 1).1)),
-            Opening::Word(style) => {
-                let (word, behind) = match read_word(alloc, style, variables, rest) {
-                    Ok(read) => read,
-                    Err(stop) => return Err(stop),
-                };
-                match words.push(word) {
-                    Ok(()) => rest = behind,
-                    Err(_) => return Err(Stop::Memory),
-                }
-            }
-        }
+    let (body, rest) = cut(text, bare_len(text.as_bytes()));
+    match word_of(alloc, Style::Bare, variables, body) {
+        Ok(word) if may_follow(rest.as_bytes()) => Ok((word, rest)),
+        Ok(_) => Err(CommandEnd::Refused(ScriptKind::Quote)),
+        Err(end) => Err(end),
     }
-    Ok((words, rest))
+}
+
+/// A quoted word by the text behind its opening quote and the place of the closing one there, and the text behind it.
+fn quoted<'a>(
+    alloc: Global,
+    style: Style,
+    variables: &Variables,
+    closing: Option<usize>,
+    text: &'a str,
+) -> Result<(Text, &'a str), CommandEnd>
+    requires { IsEnd text.now closing }
+    ensures ok { IfOk result (λ read. IsRead (quoted style (variables_of variables.now) closing text.now) read.0 text.now read.1.now 1) }
+    ensures utf8 { IfOk result (λ read. IsUtf8 read.1.now) }
+    ensures err { IfErr result (λ end. EndsAs (quoted style (variables_of variables.now) closing text.now) end) }
+{
+    let Some(n) = closing else {
+        return Err(CommandEnd::Refused(ScriptKind::Quote));
+    };
+    let (body, after) = cut(text, n);
+    let rest = cut(after, 1).1;
+    match word_of(alloc, style, variables, body) {
+        Ok(word) if may_follow(rest.as_bytes()) => Ok((word, rest)),
+        Ok(_) => Err(CommandEnd::Refused(ScriptKind::Quote)),
+        Err(end) => Err(end),
+    }
 }

@@ -11,9 +11,9 @@ use Rattle.sop_model.specs.Faults.{fault_text}
 use Rattle.geo_text.specs.ObjWriting.{obj_text}
 use Rattle.sop_net.specs.declared.node.Node.{Node}
 use Rattle.sop_net.specs.Network.{node_of, number_named}
-use Rattle.hscript_text.specs.declared.kind.ScriptKind.{ScriptKind}
+use Rattle.hscript_text.specs.declared.refusal.ScriptKind.{ScriptKind}
 use Rattle.hscript_text.specs.declared.script.Script.{Script}
-use Rattle.hscript_text.specs.KindNames.{name_of_kind}
+use Rattle.hscript_text.specs.RefusalNames.{name_of_refusal}
 use Rattle.hscript_text.specs.Script.{script_of}
 use Rattle.sop_cook.specs.SerialCook.{Outcome, Failure, cook_of}
 use Rattle.sopcook.specs.declared.answer.Answer.{Answer}
@@ -39,7 +39,7 @@ abbrev pub script_too_long : Answer
 script_too_long = refused_with 3 (codes "script: TooLong")
 
 abbrev pub line_answer : ℕ → ScriptKind → Answer
-line_answer line kind = refused_with 3 (codes "line " ++ decimal line ++ codes ": " ++ name_of_kind kind)
+line_answer line kind = refused_with 3 (codes "line " ++ decimal line ++ codes ": " ++ name_of_refusal kind)
 
 abbrev pub no_node : Answer
 no_node = refused_with 3 (codes "node: NoNode")

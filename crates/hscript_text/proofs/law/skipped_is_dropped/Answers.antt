@@ -1,6 +1,6 @@
 use Rattle.hscript_text.proofs.Growth.{within-skip}
-use Rattle.hscript_text.proofs.Commands.{command-skip}
-use Rattle.hscript_text.proofs.Scripts.{script-skip}
+use Rattle.hscript_text.proofs.Lines.{command-skip}
+use Rattle.hscript_text.proofs.Readings.{reading-skip}
 use Rattle.hscript_text.proofs.law.skipped_is_dropped.Goals as goal
 
 pub returns-clause-word : goal.returns-clause-word
@@ -9,5 +9,5 @@ returns-clause-word c = within-skip
 pub returns-clause-command : goal.returns-clause-command
 returns-clause-command c = command-skip
 
-pub returns-clause-script : goal.returns-clause-script
-returns-clause-script c = script-skip
+pub returns-clause-reading : goal.returns-clause-reading
+returns-clause-reading c = reading-skip

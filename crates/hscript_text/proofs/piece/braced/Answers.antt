@@ -3,7 +3,7 @@ use Rattle.std.proofs.lemmas.Str.{IsUtf8-drop}
 use Rattle.std.specs.Option.{option_copied}
 use Rattle.std.specs.Str.{IsCharBoundary, IsUtf8}
 use Rattle.hscript_text.specs.Pieces.{name_len}
-use Rattle.hscript_text.specs.Reading.{variables_of}
+use Rattle.hscript_text.specs.Parts.{variables_of}
 use Rattle.hscript_text.proofs.Cuts.{behind_name, behind_begins}
 use Rattle.hscript_text.proofs.Pieces.{braced_taken}
 use Rattle.hscript_text.proofs.piece.braced.Goals as goal
@@ -24,6 +24,6 @@ pub returns-in-Some-clause-ok : goal.returns-in-Some-clause-ok
 returns-in-Some-clause-ok c =
     let n : c.name_len-n.result ≡ name_len c.args.text.now = c.name_len-n.ensures ∙ ap name_len c.as_bytes.ensures.value in
     let found : variables_of c.args.variables.now (take c.name_len-n.result c.args.text.now) ≡ Some c.as_str.result.now =
-    ap (variables_of c.args.variables.now) (sym c.cut.ensures.front) ∙ sym c.get.ensures ∙ ap option_copied c.in-Some.is ∙ ap Some (sym c.as_str.ensures.value) in
+    ap (variables_of c.args.variables.now) (sym c.cut.ensures.front) ∙ sym c.get.ensures ∙ ap option_copied c.in-Some.is ∙ ap Some (sym c.as_str.ensures) in
     braced_taken (variables_of c.args.variables.now) c.args.text.now c.as_str.result.now c.cut.result.1.now c.cut-2.result.1.now c.name_len-n.result n c.if-n-eq0.false
     (sym c.begins.ensures ∙ c.if-not-begins.false) c.cut.ensures.rest c.cut-2.ensures.rest found

@@ -1,7 +1,8 @@
 use Rattle.std.proofs.Common.{◌≡◌, IfErr, subst, sym, ap, ◌∙◌, arith}
 use Rattle.std.proofs.lemmas.Result.{IfOk-weaker}
 use Rattle.hscript_text.specs.Pieces.{name_len, braced, variable}
-use Rattle.hscript_text.specs.Reading.{variables_of, IsStop}
+use Rattle.hscript_text.specs.Ends.{EndsAs}
+use Rattle.hscript_text.specs.Parts.{variables_of}
 use Rattle.hscript_text.proofs.Cuts.{behind_begins}
 use Rattle.hscript_text.proofs.Pieces.{braced_variable, variable_braced}
 use Rattle.hscript_text.proofs.piece.variable.Goals as goal
@@ -18,4 +19,4 @@ pub returns-then-begins-clause-err : goal.returns-then-begins-clause-err
 returns-then-begins-clause-err c =
     let same : braced (variables_of c.args.variables.now) (name_len c.cut.result.1.now) c.cut.result.1.now ≡ variable (variables_of c.args.variables.now) c.args.text.now =
     ap (λ t. braced (variables_of c.args.variables.now) (name_len t) t) c.cut.ensures.rest ∙ sym (variable_braced (variables_of c.args.variables.now) c.args.text.now (sym c.begins.ensures ∙ c.if-begins.true)) in
-    subst (λ p. IfErr c.braced.result (λ stop. IsStop p stop)) same c.braced.ensures.err
+    subst (λ p. IfErr c.braced.result (λ end. EndsAs p end)) same c.braced.ensures.err

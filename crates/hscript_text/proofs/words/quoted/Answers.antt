@@ -1,5 +1,5 @@
 use Rattle.std.proofs.Common.{subst}
-use Rattle.hscript_text.specs.Reading.{IsEnd}
+use Rattle.hscript_text.specs.Parts.{IsEnd}
 use Rattle.hscript_text.proofs.Cuts.{behind_end}
 use Rattle.hscript_text.proofs.words.quoted.Goals as goal
 

@@ -1,9 +1,10 @@
 use Rattle.std.proofs.Common.{◌≡◌, get_or, length, ◌<◌, subst, sym, ap, ◌∙◌, arith}
 use Rattle.hscript_text.specs.declared.style.Opening.TheVariants as opening
 use Rattle.hscript_text.specs.Words.{opening_of}
-use Rattle.hscript_text.specs.Reading.{variables_of, IsStop, joined}
+use Rattle.hscript_text.specs.Ends.{EndsAs}
+use Rattle.hscript_text.specs.Parts.{variables_of, joined}
 use Rattle.hscript_text.proofs.Openings.{behind_opening}
-use Rattle.hscript_text.proofs.Commands.{joined_word, joined_refused, rest_further}
+use Rattle.hscript_text.proofs.Lines.{joined_word, joined_refused, rest_further}
 use Rattle.hscript_text.proofs.words.read_command.Goals as goal
 
 pub cut-requires : goal.cut-requires
@@ -22,7 +23,7 @@ pub returns-in-Err-clause-err : goal.returns-in-Err-clause-err
 returns-in-Err-clause-err c =
     let at : opening_of (get_or c.words.rest.now 0 0) ≡ opening.Word c.in-Word.style = ap (λ t. opening_of (get_or t 0 0)) (sym c.as_bytes.ensures.value) ∙ sym c.opening_of.ensures ∙ c.in-Word.is in
     let some : 0 < length c.words.rest.now = omega arith in
-    subst (λ m. IsStop m c.in-Err.stop) c.words.invariant.1 (joined_refused (variables_of c.args.variables.now) c.words.words.items c.words.rest.now c.in-Word.style c.in-Err.stop some at c.in-Err.ensures.err)
+    subst (λ m. EndsAs m c.in-Err.end) c.words.invariant.1 (joined_refused (variables_of c.args.variables.now) c.words.words.items c.words.rest.now c.in-Word.style c.in-Err.end some at c.in-Err.ensures.err)
 
 pub words-preserved : goal.words-preserved
 words-preserved c =

@@ -2,7 +2,7 @@ use Rattle.std.proofs.Common.{◌≡◌, length}
 use denote.Text.{Utf8}
 use denote.Shadow.{shadow}
 use Rattle.hscript_text.specs.Words.{command_of}
-use Rattle.hscript_text.specs.Reading.{variables_of, IsRest, joined}
+use Rattle.hscript_text.specs.Parts.{variables_of, IsRest, joined}
 use Rattle.hscript_text.proofs.words.read_command.Given as goal
 
 abbrev pub invariant-words : goal.invariant-words

@@ -1,7 +1,8 @@
 use Rattle.std.proofs.Common.{◌==◌, false, position, subst, sym, ap, ◌∙◌, IfErr}
 use Rattle.std.proofs.lemmas.Result.{IfOk-weaker}
 use Rattle.hscript_text.specs.Words.{unescaped_quote}
-use Rattle.hscript_text.specs.Reading.{variables_of, IsEnd, IsStop}
+use Rattle.hscript_text.specs.Ends.{EndsAs}
+use Rattle.hscript_text.specs.Parts.{variables_of, IsEnd}
 use Rattle.hscript_text.proofs.Closings.{single_end, double_end}
 use Rattle.hscript_text.proofs.Openings.{behind_single, behind_double, first_single, first_double, quoted_read}
 use Rattle.hscript_text.proofs.words.read_word.Goals as goal
@@ -32,7 +33,7 @@ pub returns-in-Single-clause-err : goal.returns-in-Single-clause-err
 returns-in-Single-clause-err c =
     let is = first_single (variables_of c.args.variables.now) c.args.style c.args.text.now c.cut.result.1.now c.single_quote.result c.in-Single.is c.cut.ensures.rest
     (c.single_quote.ensures ∙ ap (position (λ b. b == 39)) c.as_bytes.ensures.value) in
-    subst (λ t. IfErr c.quoted.result (λ stop. IsStop t stop)) (sym is) c.quoted.ensures.err
+    subst (λ t. IfErr c.quoted.result (λ end. EndsAs t end)) (sym is) c.quoted.ensures.err
 
 pub returns-in-Double-clause-ok : goal.returns-in-Double-clause-ok
 returns-in-Double-clause-ok c =
@@ -44,4 +45,4 @@ pub returns-in-Double-clause-err : goal.returns-in-Double-clause-err
 returns-in-Double-clause-err c =
     let is = first_double (variables_of c.args.variables.now) c.args.style c.args.text.now c.cut-in-Double.result.1.now c.unescaped_quote.result c.in-Double.is c.cut-in-Double.ensures.rest
     (c.unescaped_quote.ensures ∙ ap (unescaped_quote false) c.as_bytes-in-Double.ensures.value) in
-    subst (λ t. IfErr c.quoted-in-Double.result (λ stop. IsStop t stop)) (sym is) c.quoted-in-Double.ensures.err
+    subst (λ t. IfErr c.quoted-in-Double.result (λ end. EndsAs t end)) (sym is) c.quoted-in-Double.ensures.err

@@ -1,5 +1,5 @@
 use Rattle.std.proofs.Common.{◌+◌, ◌++◌, Ok, Err, subst}
-use Rattle.hscript_text.specs.Reading.{Echoes, between}
+use Rattle.hscript_text.specs.Parts.{Echoes, between}
 use Rattle.hscript_text.proofs.Echoing.{echoes_word, echoes_cut}
 use Rattle.hscript_text.proofs.echoed.Echoed.echo.Goals as goal
 
@@ -9,9 +9,9 @@ returns-in-Err c =
     let mid = c.loop-i.self in
     let new = c.add_word.new.self in
     let word = c.index-words-i.result in
-    echoes_cut c.args.words.now (c.loop-i.i + 1) old new c.in-Err.stop
-    (echoes_word c.args.words.now c.loop-i.i word old mid new (Err c.in-Err.stop) c.loop-i-test.true c.loop-i.invariant
-    (subst (λ w. Echoes mid new (between c.loop-i.i ++ w) (Err c.in-Err.stop)) c.index-words-i.is c.in-Err.ensures))
+    echoes_cut c.args.words.now (c.loop-i.i + 1) old new c.in-Err.end
+    (echoes_word c.args.words.now c.loop-i.i word old mid new (Err c.in-Err.end) c.loop-i-test.true c.loop-i.invariant
+    (subst (λ w. Echoes mid new (between c.loop-i.i ++ w) (Err c.in-Err.end)) c.index-words-i.is c.in-Err.ensures))
 
 pub loop-i-preserved : goal.loop-i-preserved
 loop-i-preserved c =
