@@ -8,7 +8,7 @@ use Rattle.std.proofs.lemmas.Bool.{and_parts, lt-ltb, le-ltb, ltb-true, ltb-fals
 use Rattle.std.proofs.lemmas.List.{take_all}
 use Rattle.std.proofs.lemmas.List.Sums.{split_at_first, passes_at_first}
 use Rattle.sop_fixed.specs.Numerals.{is_some_digits, number_of}
-use Rattle.sop_pattern.specs.Words.{number_in, before, behind}
+use Rattle.sop_pattern.specs.Words.{most_digits, number_in, before, behind}
 use Rattle.sop_pattern.specs.Spelling.{IsNumber}
 
 -- ---- a number
@@ -18,15 +18,15 @@ if_number false x n e = cc
 
 pub number_is : (text : List ℕ) (n : ℕ) → number_in text ≡ Some n → IsNumber text n
 number_is text n e =
-    let is = if_number (is_some_digits text && nat_le (length text) 18) (number_of text) n e in
-    let parts = and_parts (is_some_digits text) (nat_le (length text) 18) is.0 in
+    let is = if_number (is_some_digits text && nat_le (length text) most_digits) (number_of text) n e in
+    let parts = and_parts (is_some_digits text) (nat_le (length text) most_digits) is.0 in
     let front = and_parts (nat_lt 0 (length text)) (list_all is_ascii_digit text) parts.0 in
-    record { digits = front.1; some = ltb-true 0 (length text) front.0; few = leb-true (length text) 18 parts.1; value = is.1 }
+    record { digits = front.1; some = ltb-true 0 (length text) front.0; few = leb-true (length text) most_digits parts.1; value = is.1 }
 
 pub number_from : (text : List ℕ) (n : ℕ) → IsNumber text n → number_in text ≡ Some n
 number_from text n is =
     let some : nat_lt 0 (length text) ≡ true = lt-ltb 0 (length text) is.some in
-    let few : nat_le (length text) 18 ≡ true = le-leb (length text) 18 is.few in
+    let few : nat_le (length text) most_digits ≡ true = le-leb (length text) most_digits is.few in
     let digits : list_all is_ascii_digit text ≡ true = is.digits in
     rw (some, digits, few) (ap Some is.value)
 

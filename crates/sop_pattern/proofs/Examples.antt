@@ -12,7 +12,8 @@ use Rattle.sop_pattern.specs.declared.word.Atom.TheVariants.{Number, Range, Step
 use Rattle.sop_pattern.specs.declared.word.Effect.TheVariants.{Adds, AddsOthers, Takes}
 use Rattle.sop_pattern.specs.declared.fault.PatternFault.{PatternFault}
 use Rattle.sop_pattern.specs.declared.fault.PatternFault.TheVariants.{BadWord, NoGroup}
-use Rattle.sop_pattern.specs.Words.{words_of, pattern_of}
+use Rattle.sop_outside.specs.Blanks.{words_of}
+use Rattle.sop_pattern.specs.Words.{pattern_of}
 use Rattle.sop_pattern.specs.Wildcard.{matches}
 use Rattle.sop_pattern.specs.Selection.{selected}
 

@@ -1,4 +1,3 @@
-mod Digits
 mod Marking
 mod Names
 mod Ends

@@ -1,14 +1,14 @@
 -- Names of groups: their bytes, and whether a group of a name is there.
-use Rattle.std.proofs.Common.{◌≡◌, ℕ, zero, suc, ◌<◌, Bool, true, false, not, List, [], ◌∷◌, length, get_or, arith, Option, Some, None, refl, sym, ap, ◌∙◌}
-use Rattle.std.specs.Prelude.{◌&&◌, ◌||◌, nat_le, nat_lt, position, is_some, bytes_eq}
+use Rattle.std.proofs.Common.{◌≡◌, ℕ, zero, suc, ◌<◌, Bool, true, false, not, List, [], ◌∷◌, length, get_or, arith, Option, refl, sym, ap, ◌∙◌}
+use Rattle.std.specs.Prelude.{◌&&◌, ◌||◌, nat_le, position, is_some, bytes_eq}
 use Rattle.std.specs.List.{list_all}
 use Rattle.std.specs.Str.{IsUtf8}
 use Rattle.std.proofs.lemmas.Str.{IsUtf8-from_ascii}
-use Rattle.std.proofs.lemmas.Bool.{and_parts, and_from, lt-ltb, le-ltb}
-use Rattle.std.proofs.lemmas.List.Sums.{position_or_len_is}
+use Rattle.std.proofs.lemmas.Bool.{and_parts, and_from}
 use Rattle.std.proofs.lemmas.Bool.Decides.{nat_tests}
 use Rattle.sop_model.specs.declared.class.Class.{Class}
 use Rattle.sop_model.specs.declared.geo.Geo.{Geo}
+use Rattle.sop_model.specs.Limits.{most_name_bytes}
 use Rattle.sop_model.specs.Names.{starts_name, continues_name, is_name}
 use Rattle.sop_model.specs.Geometry.{heads_of}
 use Rattle.sop_pattern.specs.declared.word.Atom.{Atom}
@@ -41,7 +41,7 @@ wider (b ∷ word) h =
 pub names_are_plain : (word : List ℕ) → is_name word ≡ true → list_all (λ b. continues_name b || is_wild_byte b) word ≡ true
 names_are_plain [] h = cc
 names_are_plain (b ∷ word) h =
-    let parts = and_parts (starts_name b && list_all continues_name word) (nat_le (length word) 63) h in
+    let parts = and_parts (starts_name b && list_all continues_name word) (nat_le (length (b ∷ word)) most_name_bytes) h in
     let front = and_parts (starts_name b) (list_all continues_name word) parts.0 in
     wider (b ∷ word) (and_from (continues_name b) (list_all continues_name word) (or_first (starts_name b) _ front.0) front.1)
 
@@ -55,16 +55,3 @@ named_is_missing g class atom name text found none is same at some =
     sym (not_not none) ∙ ap not (sym some) ∙ ap (λ o. not (is_some o)) at
     ∙ ap (λ w. not (is_some (position (λ group. bytes_eq group w) (heads_of g class).groups))) same
     ∙ ap (lacks_group g class) (sym is)
-
-pub first_is : {A : Type 0} (p : A → Bool) (xs : List A) (i : ℕ) (d : A) → i < length xs → ((k : ℕ) → k < i → p (get_or xs k d) ≡ false) → p (get_or xs i d) ≡ true → position p xs ≡ Some i
-first_is p xs i d lt none here =
-    let e = position_or_len_is p xs i d (omega arith) none (λ _. here) in
-    let is : nat_lt i (length xs) ≡ true = lt-ltb i (length xs) lt in
-    rw (e, is)
-
-pub none_is : {A : Type 0} (p : A → Bool) (xs : List A) → ((k : ℕ) (d : A) → k < length xs → p (get_or xs k d) ≡ false) → position p xs ≡ None
-none_is p [] none = refl
-none_is p (x ∷ xs) none =
-    let e = position_or_len_is p (x ∷ xs) (length (x ∷ xs)) x (omega arith) (λ k. none k x) (λ h. absurd (omega arith)) in
-    let is : nat_lt (length (x ∷ xs)) (length (x ∷ xs)) ≡ false = le-ltb (length (x ∷ xs)) (length (x ∷ xs)) (omega arith) in
-    rw (e, is)

@@ -7,6 +7,7 @@ use Rattle.std.proofs.lemmas.Bool.{and_parts, and_from, lt-ltb, le-ltb, ltb-true
 use Rattle.std.proofs.lemmas.Bool.Decides.{nat_tests}
 use Rattle.std.proofs.lemmas.Slice.Eq.{bytes_eq-Decides}
 use Rattle.std.specs.Char.{is_ascii_digit}
+use Rattle.sop_model.specs.Limits.{most_name_bytes}
 use Rattle.sop_model.specs.Names.{starts_name, continues_name, is_name}
 use Rattle.sop_pattern.specs.declared.word.Atom.{Atom}
 use Rattle.sop_pattern.specs.declared.word.Atom.TheVariants.{Number, Range, Step, Cycle, All, Group, Groups}
@@ -159,7 +160,7 @@ no_digit_starts b h = grind (arith, nat_tests)
 group_read : (word : List ℕ) → is_name word ≡ true → atom_of word ≡ Some (Group word)
 group_read [] h = absurd cc
 group_read (b ∷ rest) h =
-    let starts = (and_parts (starts_name b) (list_all continues_name rest) (and_parts (starts_name b && list_all continues_name rest) (nat_le (length rest) 63) h).0).0 in
+    let starts = (and_parts (starts_name b) (list_all continues_name rest) (and_parts (starts_name b && list_all continues_name rest) (nat_le (length (b ∷ rest)) most_name_bytes) h).0).0 in
     let no_digit = no_digit_starts b starts in
     let other : bytes_eq (b ∷ rest) (codes "*") ≡ false = not_star (b ∷ rest) h in
     named_is (b ∷ rest) (omega arith) no_digit ∙ ap (λ x. if x then Some All else if is_name (b ∷ rest) then Some (Group (b ∷ rest)) else if is_wild (b ∷ rest) then Some (Groups (b ∷ rest)) else None) other
@@ -190,7 +191,7 @@ wild_is_no_name : (word : List ℕ) → is_wild word ≡ true → is_name word �
 wild_is_no_name [] h = refl
 wild_is_no_name (b ∷ rest) h = elim (cases_Bool (is_name (b ∷ rest))) [
   | inl named ↦
-      (let front = and_parts (starts_name b) (list_all continues_name rest) (and_parts (starts_name b && list_all continues_name rest) (nat_le (length rest) 63) named).0 in
+      (let front = and_parts (starts_name b) (list_all continues_name rest) (and_parts (starts_name b && list_all continues_name rest) (nat_le (length (b ∷ rest)) most_name_bytes) named).0 in
       let all = and_from (continues_name b) (list_all continues_name rest) (starts_continue b front.0) front.1 in
       let past : nat_lt (length (b ∷ rest)) (length (b ∷ rest)) ≡ false = le-ltb (length (b ∷ rest)) (length (b ∷ rest)) (omega arith) in
       let none : is_some (position is_wild_byte (b ∷ rest)) ≡ false =

@@ -3,17 +3,16 @@ use Rattle.std.specs.Prelude.{◌≡◌, ◌≢◌, ℕ, ◌<◌, ◌≤◌, Boo
 use Rattle.std.specs.List.{list_all}
 use Rattle.std.specs.Char.{is_ascii_digit}
 use Rattle.sop_fixed.specs.Numerals.{number_of}
-use Rattle.std.specs.Char.{is_ascii_digit}
 use Rattle.sop_model.specs.Names.{is_name}
 use Rattle.sop_pattern.specs.declared.word.Atom.{Atom}
 use Rattle.sop_pattern.specs.declared.word.Atom.TheVariants.{Number, Range, Step, Cycle, All, Group, Groups}
-use Rattle.sop_pattern.specs.Words.{is_wild}
+use Rattle.sop_pattern.specs.Words.{most_digits, is_wild}
 
 -- 1 to 18 digits that say a number
 pub record IsNumber (text : List ℕ) (n : ℕ) : Type 0 where
   pub digits : IsTrue (list_all is_ascii_digit text)
   pub some : 0 < length text
-  pub few : length text ≤ 18
+  pub few : length text ≤ most_digits
   pub value : number_of text ≡ n
 
 -- `n-m`

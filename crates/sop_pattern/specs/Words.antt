@@ -2,10 +2,11 @@
 --
 -- Words are separated by blanks. A word is an atom, behind `!` or `^` or neither. An atom is numbers, `*`, the name of a group, or a text
 -- with `*` and `?` that stands for names of groups.
-use Rattle.std.specs.Prelude.{ℕ, suc, Bool, true, false, if◌then◌else◌, ◌&&◌, ◌||◌, nat_le, nat_lt, ◌==◌, List, [], ◌∷◌, length, filter, Option, None, Some, is_some, Result, Ok, Err, position, codes, bytes_eq}
-use Rattle.std.specs.List.{slice_split, list_all, before_first, after_first}
+use Rattle.std.specs.Prelude.{ℕ, suc, Bool, if◌then◌else◌, ◌&&◌, ◌||◌, nat_lt, ◌==◌, List, [], ◌∷◌, Option, None, Some, is_some, Result, Ok, Err, position, codes, bytes_eq}
+use Rattle.std.specs.List.{list_all, before_first, after_first}
 use Rattle.std.specs.Option.{option_map}
-use Rattle.sop_fixed.specs.Numerals.{is_some_digits, number_of}
+use Rattle.sop_fixed.specs.Numerals as numerals
+use Rattle.sop_outside.specs.Blanks.{words_of}
 use Rattle.std.specs.Char.{is_ascii_digit}
 use Rattle.sop_model.specs.Names.{continues_name, is_name}
 use Rattle.sop_pattern.specs.declared.word.Atom.{Atom}
@@ -14,21 +15,13 @@ use Rattle.sop_pattern.specs.declared.word.Effect.{Effect}
 use Rattle.sop_pattern.specs.declared.word.Effect.TheVariants.{Adds, AddsOthers, Takes}
 use Rattle.sop_pattern.specs.declared.word.Word.{Word}
 
--- space, tab, CR and LF
-abbrev pub is_blank : ℕ → Bool
-is_blank b = (b == 32) || (b == 9) || (b == 13) || (b == 10)
+-- the digits of a number
+abbrev pub most_digits : ℕ
+most_digits = 18
 
-abbrev pub is_filled : List ℕ → Bool
-is_filled [] = false
-is_filled (b ∷ text) = true
-
--- The words of a text are its longest runs of bytes that aren't blanks.
-abbrev pub words_of : List ℕ → List (List ℕ)
-words_of text = filter is_filled (slice_split is_blank text)
-
--- A number is 1 to 18 digits.
+-- the number that a text of that many digits at most, and of at least one, says
 abbrev pub number_in : List ℕ → Option ℕ
-number_in text = if is_some_digits text && nat_le (length text) 18 then Some (number_of text) else None
+number_in text = numerals.number_in most_digits text
 
 -- what stands before the first byte `mark`, or the whole text where there is none
 abbrev pub before : ℕ → List ℕ → List ℕ

@@ -1,3 +1,4 @@
+// What a text must look like to be read as an atom.
 ghost use Rattle.std.specs.Prelude.{◌≡◌, ◌↔◌, Some};
 ghost use Rattle.sop_pattern.specs.declared.word.Atom.{Atom};
 ghost use Rattle.sop_pattern.specs.Words.{atom_of};

@@ -15,12 +15,9 @@ pub fn first_missing<V: GeoView>(words: &[Word], view: &V, class: Class) -> Opti
     requires { IsReadable (V.geo view.now) }
     ensures { result ≡ position (λ word. lacks_group (V.geo view.now) class word.atom) words.now }
 {
-    for (place, word) in words.iter().enumerate() {
-        if lacks_group(&word.atom, view, class) {
-            return Some(place);
-        }
-    }
-    None
+    words
+        .iter()
+        .position(|word| lacks_group(&word.atom, view, class))
 }
 
 fn lacks_group<V: GeoView>(atom: &Atom, view: &V, class: Class) -> bool
@@ -75,18 +72,6 @@ fn take_word<V: GeoView>(
         }
     }
     Ok(())
-}
-
-/// Sets the flags that aren't held.
-fn add_others(held: &[bool], flags: &mut [bool])
-    requires { length held.now ≡ length flags.old }
-    ensures { (e : ℕ) → e < length flags.old → slice_index_or flags.new e false ≡ selected_by Effect.AddsOthers (slice_index_or flags.old e false) (slice_index_or held.now e false) }
-{
-    for (e, held) in held.iter().enumerate() {
-        if !*held {
-            flags[e] = true;
-        }
-    }
 }
 
 /// Sets the flags of the elements that an atom holds to a value.
@@ -166,6 +151,18 @@ fn mark_group<V: GeoView>(group: u32, view: &V, class: Class, flags: &mut [bool]
     for e in 0..view.count(class) {
         if view.member(class, group, e) {
             flags[e as usize] = to;
+        }
+    }
+}
+
+/// Sets the flags that aren't held.
+fn add_others(held: &[bool], flags: &mut [bool])
+    requires { length held.now ≡ length flags.old }
+    ensures { (e : ℕ) → e < length flags.old → slice_index_or flags.new e false ≡ selected_by Effect.AddsOthers (slice_index_or flags.old e false) (slice_index_or held.now e false) }
+{
+    for (e, held) in held.iter().enumerate() {
+        if !*held {
+            flags[e] = true;
         }
     }
 }

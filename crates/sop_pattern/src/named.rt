@@ -1,16 +1,19 @@
 // Atoms that are `*`, a name, or a text that stands for names.
-ghost use Rattle.std.specs.Prelude.{◌≡◌, ◌||◌, IfOk, position, true};
+ghost use Rattle.std.specs.Prelude.{◌≡◌, ◌||◌, IfOk, IfSome, position, true};
 ghost use Rattle.std.specs.List.{list_all};
-ghost use Rattle.sop_model.specs.Names.{starts_name, continues_name, is_name};
+ghost use Rattle.sop_model.specs.Names.{continues_name};
 ghost use Rattle.sop_pattern.specs.Words.{is_wild_byte, is_wild, named_atom};
+ghost use Rattle.sop_pattern.specs.Marks.{has_period};
 
 use crate::word::Atom;
+use sop_model::{continues_name, is_name};
 use sop_outside::Text;
 use std::alloc::{AllocError, Global};
 
 /// `*`, a name, or a text with `*` and `?` that stands for names.
 pub fn read_named(alloc: Global, word: &[u8]) -> Result<Option<Atom>, AllocError>
-    ensures { IfOk result (λ atom. atom ≡ named_atom word.now) }
+    ensures value { IfOk result (λ atom. atom ≡ named_atom word.now) }
+    ensures period { IfOk result (λ atom. IfSome atom (λ a. has_period a ≡ true)) }
 {
     if word == b"*".as_slice() {
         return Ok(Some(Atom::All));
@@ -34,34 +37,6 @@ fn text_of(alloc: Global, word: &[u8]) -> Result<Text, AllocError>
     }
 }
 
-/// A letter or `_`, then letters, digits or `_`, 1 to 64 bytes.
-fn is_name(word: &[u8]) -> bool
-    ensures { result ≡ is_name word.now }
-{
-    match word {
-        [] => false,
-        [first, rest @ ..] => starts_name(*first) && all_continue(rest) && rest.len() <= 63,
-    }
-}
-
-fn starts_name(b: u8) -> bool
-    ensures { result ≡ starts_name b }
-{
-    b.is_ascii_alphabetic() || b == b'_'
-}
-
-fn continues_name(b: u8) -> bool
-    ensures { result ≡ continues_name b }
-{
-    starts_name(b) || b.is_ascii_digit()
-}
-
-fn all_continue(text: &[u8]) -> bool
-    ensures { result ≡ list_all continues_name text.now }
-{
-    text.iter().all(|b| continues_name(*b))
-}
-
 /// Letters, digits, `_`, `*` and `?`, with a `*` or `?` among them.
 fn is_wild(word: &[u8]) -> bool
     ensures { result ≡ is_wild word.now }
@@ -69,16 +44,16 @@ fn is_wild(word: &[u8]) -> bool
     all_wild(word) && wild_place(word).is_some()
 }
 
-fn is_wild_byte(b: u8) -> bool
-    ensures { result ≡ is_wild_byte b }
-{
-    b == b'*' || b == b'?'
-}
-
 fn all_wild(word: &[u8]) -> bool
     ensures { result ≡ list_all (λ b. continues_name b || is_wild_byte b) word.now }
 {
     word.iter().all(|b| continues_name(*b) || is_wild_byte(*b))
+}
+
+fn is_wild_byte(b: u8) -> bool
+    ensures { result ≡ is_wild_byte b }
+{
+    b == b'*' || b == b'?'
 }
 
 fn wild_place(word: &[u8]) -> Option<usize>

@@ -1,6 +1,7 @@
 // Patterns: read once, and used on any geometry.
 ghost use Rattle.std.specs.Prelude.{◌≡◌, ◌≤◌, IfOk, IfErr, Ok, length};
 ghost use Rattle.sop_model.specs.Geometry.{IsReadable};
+ghost use Rattle.sop_model.specs.Limits.{most_pattern_bytes};
 ghost use Rattle.sop_pattern.specs.Words.{pattern_of};
 ghost use Rattle.sop_pattern.specs.Selection.{selection, IsReadFault, IsSelectFault};
 
@@ -32,10 +33,10 @@ impl Model for Pattern {
 }
 
 impl Pattern {
-    /// The pattern of a text of at most 1,024 bytes: words between blanks, which are space, tab, CR and LF. BadWord has the
-    /// number of the first bad word, from 0. Memory may come at any text; NoGroup never does.
+    /// The pattern of a text of at most 1,024 bytes: words between blanks, which are space, tab, CR and LF. `BadWord` has
+    /// the number of the first bad word, from 0. `Memory` may come at any text; `NoGroup` never does.
     pub fn read(alloc: Global, text: &str) -> Result<Pattern, PatternFault>
-        requires { length text.now ≤ 1024 }
+        requires { length text.now ≤ most_pattern_bytes }
         ensures ok { IfOk result (λ pattern. pattern_of text.now ≡ Ok pattern) }
         ensures err { IfErr result (IsReadFault (pattern_of text.now)) }
     {
@@ -43,8 +44,9 @@ impl Pattern {
         Ok(Pattern { words })
     }
 
-    /// What the pattern selects of a class of a geometry: a flag for each element, in order. NoGroup has the number of the
-    /// first word, from 0, that is a name which no group of the class has. Memory may come at any pattern; BadWord never does.
+    /// What the pattern selects of a class of a geometry: a flag for each element, in order. `NoGroup` has the number of
+    /// the first word, from 0, that is a name which no group of the class has. `Memory` may come at any pattern;
+    /// `BadWord` never does.
     pub fn select<V: GeoView>(
         &self,
         alloc: Global,

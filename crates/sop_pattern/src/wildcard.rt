@@ -23,17 +23,6 @@ pub fn matches(pattern: &[u8], name: &[u8]) -> bool
     }
 }
 
-/// Whether a byte of a pattern other than `*` stands for the first byte of a name.
-fn begins(c: u8, name: &[u8]) -> bool
-    ensures value { result ≡ begins c name.now }
-    ensures some { IsTrue result → 1 ≤ length name.now }
-{
-    match name {
-        [b, ..] => c == b'?' || c == *b,
-        [] => false,
-    }
-}
-
 /// Whether a pattern matches some end of a name. Where it fails behind its last `*` so far, that `*` takes one byte more:
 /// what stands before it needs no other try, since it matched as early as it can. So each byte of the name is such a
 /// byte at most once, with at most the whole pattern tried behind it.
@@ -65,5 +54,16 @@ fn matches_some_end(pattern: &[u8], name: &[u8]) -> bool
                 rest = behind;
             }
         }
+    }
+}
+
+/// Whether a byte of a pattern other than `*` stands for the first byte of a name.
+fn begins(c: u8, name: &[u8]) -> bool
+    ensures value { result ≡ begins c name.now }
+    ensures some { IsTrue result → 1 ≤ length name.now }
+{
+    match name {
+        [b, ..] => c == b'?' || c == *b,
+        [] => false,
     }
 }

@@ -34,6 +34,8 @@ pub enum Atom {
 /// A word of a pattern.
 #[derive(Debug, Drop)]
 pub struct Word {
+    /// What the word does with the elements that its atom holds.
     pub effect: Effect,
+    /// The elements that the word speaks of.
     pub atom: Atom,
 }
