@@ -1,17 +1,12 @@
 -- Worked examples: squared distances, and what the plain scan finds, by computation.
 use Rattle.std.specs.Prelude.{◌≡◌, refl, ℤ, pos, negsuc, List, [], ◌∷◌}
 use Rattle.sop_fixed.specs.declared.vec3.Vec3.{Vec3}
-use Rattle.sop_model.specs.declared.value.Value.TheVariants as value
-use Rattle.sop_nearest.specs.Places.{place_of, squared}
+use Rattle.sop_nearest.specs.Places.{squared}
 use Rattle.sop_nearest.specs.PlainScan.{plain_scan}
 use Rattle.sop_nearest.specs.Cells.{cell_of}
 
 at : ℤ → ℤ → ℤ → Vec3
 at x y z = record { x = x; y = y; z = z }
-
--- a place is the first value of its point
-first_value : place_of (record { values = value.Vector (record { x = pos 1; y = pos 2; z = pos 3 }) ∷ value.Int (pos 9) ∷ []; flags = [] }) ≡ record { x = pos 1; y = pos 2; z = pos 3 }
-first_value = refl
 
 -- 3 and 4 of the unit, on both sides of zero
 squared_of_5 : squared (record { x = pos 2000000; y = negsuc 2999999; z = pos 0 }) (record { x = negsuc 999999; y = pos 1000000; z = pos 0 }) ≡ 25000000000000

@@ -5,4 +5,3 @@ pub mod Scan
 pub mod Grid
 pub mod Asked
 pub mod Reading
-pub mod SampleLemmas

@@ -3,6 +3,7 @@ use Rattle.std.specs.Prelude.{ℕ, ◌+◌, ◌-◌, ◌*◌, ◌/◌, ◌^◌, 
 use Rattle.std.specs.List.{range_with_len}
 use Rattle.std.specs.Ordering.{nat_cmp, ordering_then}
 use Rattle.std.specs.declared.cmp.Ordering.{Ordering}
+use Rattle.sop_fixed.specs.Numbers.{largest_size}
 use Rattle.sop_fixed.specs.declared.vec3.Vec3.{Vec3}
 use Rattle.sop_nearest.specs.Places.{place_at, squared}
 use Rattle.sop_nearest.specs.declared.cells.Cell.{Cell}
@@ -13,8 +14,8 @@ use Rattle.sop_nearest.specs.declared.hits.Ball.{Ball}
 
 -- how many millionths a coordinate lies above the least Real
 abbrev pub height_of : ℤ → ℕ
-height_of (pos n) = 1000000000000000 + n
-height_of (negsuc n) = 1000000000000000 - suc n
+height_of (pos n) = largest_size + n
+height_of (negsuc n) = largest_size - suc n
 
 -- the cell of a place; cells are as wide as `side` along each axis
 abbrev pub cell_of : ℕ → Vec3 → Cell

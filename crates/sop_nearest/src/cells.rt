@@ -9,11 +9,8 @@ ghost use Rattle.sop_nearest.specs.declared.cells.Spot.{Spot};
 ghost use Rattle.sop_nearest.specs.Cells.{hits_at, cell_cmp, cell_of, height_of, is_in, is_in_reach, is_in_row, is_in_slab, AddsHits, IsGrid};
 
 use crate::hits::{Ball, Hit};
-use sop_fixed::{Real, Vec3};
+use sop_fixed::{LARGEST_SIZE, Real, Vec3};
 use std::alloc::{AllocError, Global};
-
-/// The greatest size of a coordinate, in millionths.
-const LARGEST_SIZE: i64 = 1_000_000_000_000_000;
 
 /// A cell by its place along each axis, from the least coordinate on. Cells stand by x, then by y, then by z.
 #[derive(Clone, Copy, Debug, PartialEq, Eq, PartialOrd, Ord)]
@@ -80,30 +77,9 @@ fn cell_of(side: u64, place: Vec3) -> Cell
 /// How many millionths a coordinate lies above the least one.
 fn height_of(x: Real) -> u64
     ensures value { result ≡ height_of x }
-    ensures bound { result ≤ 2000000000000000 }
+    ensures bound { result ≤ 2 * largest_size }
 {
-    (x.millionths() + LARGEST_SIZE) as u64
-}
-
-impl Span {
-    /// The cells within `radius` millionths of a coordinate.
-    fn around(side: u64, center: Real, radius: u64) -> Span
-        requires wide { 0 < side }
-        requires radius { radius ≤ largest_size }
-        ensures { (x : ℤ) → unsigned_abs (x -ℤ center) ≤ radius → IsTrue (is_in result (height_of x / side)) }
-    {
-        let height = height_of(center);
-        Span {
-            low: height.saturating_sub(radius) / side,
-            end: (height + radius) / side + 1,
-        }
-    }
-
-    fn len(self) -> u64
-        ensures { result ≡ self.end - self.low }
-    {
-        self.end.saturating_sub(self.low)
-    }
+    (x.millionths() + LARGEST_SIZE as i64) as u64
 }
 
 impl Reach {
@@ -171,6 +147,27 @@ impl Reach {
             measure_row(places, row(spots, x, y, self.z), ball, hits)?;
         }
         Ok(())
+    }
+}
+
+impl Span {
+    /// The cells within `radius` millionths of a coordinate.
+    fn around(side: u64, center: Real, radius: u64) -> Span
+        requires wide { 0 < side }
+        requires radius { radius ≤ largest_size }
+        ensures { (x : ℤ) → unsigned_abs (x -ℤ center) ≤ radius → IsTrue (is_in result (height_of x / side)) }
+    {
+        let height = height_of(center);
+        Span {
+            low: height.saturating_sub(radius) / side,
+            end: (height + radius) / side + 1,
+        }
+    }
+
+    fn len(self) -> u64
+        ensures { result ≡ self.end - self.low }
+    {
+        self.end.saturating_sub(self.low)
     }
 }
 

@@ -64,16 +64,16 @@ fn squared(a: Vec3, b: Vec3) -> u128
 /// The square of the distance along one axis.
 fn along(a: Real, b: Real) -> u128
     ensures value { result ≡ square (a -ℤ b) }
-    ensures bound { result ≤ 4000000000000000000000000000000 }
+    ensures bound { result ≤ 4 * (largest_size * largest_size) }
 {
     square_of(a.millionths().abs_diff(b.millionths()))
 }
 
 /// The square of a size, or of a difference of two coordinates.
 fn square_of(size: u64) -> u128
-    requires { size ≤ 2000000000000000 }
+    requires { size ≤ 2 * largest_size }
     ensures value { result ≡ size * size }
-    ensures bound { result ≤ 4000000000000000000000000000000 }
+    ensures bound { result ≤ 4 * (largest_size * largest_size) }
 {
     u128::from(size) * u128::from(size)
 }

@@ -3,7 +3,7 @@
 
 mod cells;
 mod hits;
-pub mod near;
+mod near;
 mod places;
 
 pub use near::Near;

@@ -2,7 +2,7 @@
 ghost use Rattle.std.specs.Prelude.{◌≡◌, ◌≤◌, IfOk, map, pos, ◌≤ℤ◌, unsigned_abs};
 ghost use Rattle.sop_fixed.specs.Numbers.{largest_size};
 ghost use Rattle.sop_model.specs.Geometry.{IsReadable};
-ghost use Rattle.sop_nearest.specs.Places.{places_of};
+ghost use Rattle.sop_model.specs.Places.{places_of};
 ghost use Rattle.sop_nearest.specs.PlainScan.{plain_scan, IsNearby};
 
 use crate::cells::{Reach, Spot, sorted_spots};

@@ -1,5 +1,5 @@
 use Rattle.std.proofs.Common.{◌≡◌, take}
-use Rattle.sop_nearest.specs.Places.{places_of}
+use Rattle.sop_model.specs.Places.{places_of}
 use Rattle.sop_nearest.proofs.places.places.Given as goal
 
 abbrev pub invariant-loop-point : goal.invariant-loop-point
