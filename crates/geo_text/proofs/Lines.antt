@@ -17,8 +17,8 @@ use Rattle.sop_model.specs.declared.geo.Corner.{Corner}
 use Rattle.sop_model.specs.Geometry.{empty_row}
 use Rattle.geo_text.specs.declared.part.Part.{Part}
 use Rattle.geo_text.specs.declared.part.Part.TheVariants.{Nothing, Position, Face}
-use Rattle.geo_text.specs.ObjReading.{is_blank, is_filled, is_position_line, references_of, part_of, corner_of, each_of}
-use Rattle.geo_text.specs.ObjForm.{is_word, are_three_numerals, is_point_number, are_point_numbers, have_form}
+use Rattle.geo_text.specs.ObjReading.{is_obj_blank, is_filled, is_position_line, references_of, part_of, corner_of, each_of}
+use Rattle.geo_text.specs.ObjForm.{most_digits, is_word, are_three_numerals, is_point_number, are_point_numbers, have_form}
 use Rattle.geo_text.specs.ObjFirst.{first_coordinate, first_vector, first_position, first_corner, first_corners, first_face, first_words, before_others, are_corners_within, vertices_of}
 use Rattle.geo_text.proofs.Plain.{IsPlainCorner, IsPlainPart}
 
@@ -102,10 +102,10 @@ position_says total (x ∷ y ∷ z ∷ []) v e =
 position_says total (x ∷ y ∷ z ∷ w ∷ words) v e = cc
 
 -- ---- a reference
-digit_plain : (d : ℕ) → is_ascii_digit d ≡ true → (is_blank d ≡ false) × (is_sign d ≡ false) × ((d == 45) ≡ false)
+digit_plain : (d : ℕ) → is_ascii_digit d ≡ true → (is_obj_blank d ≡ false) × (is_sign d ≡ false) × ((d == 45) ≡ false)
 digit_plain d h = (grind (arith, nat_tests), grind (arith, nat_tests), grind (arith, nat_tests))
 
-digits_plain : (ds : List ℕ) → list_all is_ascii_digit ds ≡ true → list_all (λ b. not (is_blank b)) ds ≡ true
+digits_plain : (ds : List ℕ) → list_all is_ascii_digit ds ≡ true → list_all (λ b. not (is_obj_blank b)) ds ≡ true
 digits_plain [] h = refl
 digits_plain (d ∷ ds) h =
     let parts = and_parts (is_ascii_digit d) (list_all is_ascii_digit ds) h in
@@ -140,11 +140,11 @@ pub record Names (total : ℕ) (word : List ℕ) (c : Corner) : Type 0 where
 
 corner_names : (total : ℕ) (word : List ℕ) (c : Corner) → first_corner word ≡ Some c → Names total word c
 corner_names total word c e =
-    let short = is_some_digits word && nat_le (length word) 9 in
+    let short = is_some_digits word && nat_le (length word) most_digits in
     let number = number_of word in
     let is = if_some (short && nat_lt 0 number) (record { point = number - 1; row = empty_row }) c e in
     let parts = and_parts short (nat_lt 0 number) is.0 in
-    let digits = (and_parts (is_some_digits word) (nat_le (length word) 9) parts.0).0 in
+    let digits = (and_parts (is_some_digits word) (nat_le (length word) most_digits) parts.0).0 in
     let word_is = digits_word word digits in
     let count = below_count number total (lt_true 0 number parts.1) in
     let point : number - 1 ≡ c.point = ap (λ k. k.point) is.1 in
@@ -240,7 +240,7 @@ first_of_and b c h = rw h
 
 corner_complete : (total : ℕ) (word : List ℕ) → is_point_number total word ≡ true → (c : Corner) × (first_corner word ≡ Some c)
 corner_complete total word h =
-    let counted = is_some_digits word && nat_le (length word) 9 && nat_lt 0 (number_of word) in
+    let counted = is_some_digits word && nat_le (length word) most_digits && nat_lt 0 (number_of word) in
     let parts = and_parts counted (nat_le (number_of word) total) h in
     (record { point = number_of word - 1; row = empty_row }, first_of_and counted (record { point = number_of word - 1; row = empty_row }) parts.0)
 

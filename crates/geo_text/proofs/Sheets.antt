@@ -5,6 +5,7 @@ use Rattle.std.specs.List.{list_all}
 use Rattle.std.proofs.lemmas.Bool.{and_parts, and_left, and_right, false_from_ne_true}
 use Rattle.std.proofs.lemmas.Bool.Decides.{nat_tests}
 use Rattle.std.proofs.lemmas.List.Elements.{All-nil, All-cons}
+use Rattle.sop_model.specs.Limits.{most_points, most_prims, most_vertices}
 use Rattle.sop_model.specs.Vertices.{corners_of}
 use Rattle.geo_text.specs.declared.part.Part.{Part}
 use Rattle.geo_text.specs.declared.part.Part.TheVariants.{Nothing, Position, Face}
@@ -129,7 +130,7 @@ lines_without total (line ∷ lines) e =
     ]
 
 -- ---- the whole text
-limits_small : (points prims vertices : ℕ) → (nat_lt 1000000 points || nat_lt 4000000 vertices || nat_lt 1000000 prims) ≡ not (nat_le points 1000000 && nat_le prims 1000000 && nat_le vertices 4000000)
+limits_small : (points prims vertices : ℕ) → (nat_lt most_points points || nat_lt most_vertices vertices || nat_lt most_prims prims) ≡ not (nat_le points most_points && nat_le prims most_prims && nat_le vertices most_vertices)
 limits_small points prims vertices = grind (arith, nat_tests)
 
 pub text_without : (bytes : List ℕ) → first_sheet (lines_of bytes) ≡ None → has_first_form bytes ≡ false

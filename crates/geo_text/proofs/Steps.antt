@@ -1,21 +1,18 @@
 -- Steps of the loops that read.
-use Rattle.std.proofs.Common.{◌≡◌, ℕ, suc, ◌+◌, ◌-◌, ◌*◌, ◌^◌, ◌<◌, ◌≤◌, List, [], ◌∷◌, ◌++◌, length, get_or, take, drop, drop-cons, add-one, append_assoc, append-nil, length-append, length-drop, zero, Bool, true, false, not, refl, sym, ap, ◌∙◌, arith, Option, Some, None, cond, lit≤}
-use Rattle.std.specs.Prelude.{◌&&◌, ◌==◌, nat_lt, nat_le, IfSome, Result, Err, is_some, position, sum_by, codes, if◌then◌else◌}
+use Rattle.std.proofs.Common.{◌≡◌, ℕ, suc, ◌+◌, ◌-◌, ◌<◌, ◌≤◌, List, [], ◌∷◌, ◌++◌, length, get_or, take, drop, drop-cons, add-one, append_assoc, append-nil, length-append, length-drop, Bool, true, false, not, refl, sym, ap, ◌∙◌, arith, Option, Some, None, cond}
+use Rattle.std.specs.Prelude.{◌&&◌, ◌==◌, nat_lt, nat_le, IfSome, Result, Err, is_some, position, codes, if◌then◌else◌}
 use Rattle.std.specs.Borrow.{Bor}
-use Rattle.std.specs.List.{list_all, position_or_len, slice_split, onto_first}
-use Rattle.std.specs.Char.{is_ascii_digit}
+use Rattle.std.specs.List.{position_or_len, slice_split, onto_first}
 use Rattle.std.specs.Option.{option_map}
-use Rattle.std.proofs.Math.Nat.{pow-suc, pow-le-pow_right}
-use Rattle.std.proofs.lemmas.Bool.{and_parts}
 use Rattle.std.proofs.lemmas.Bool.Decides.{nat_tests}
 use Rattle.std.proofs.lemmas.List.{take_all, drop_all}
-use Rattle.std.proofs.lemmas.List.Concat.{flat_map-append, length-flat_map}
+use Rattle.std.proofs.lemmas.List.Concat.{flat_map-append}
 use Rattle.std.proofs.lemmas.List.Splits.{slice_split_first, slice_split-cons_no, length-slice_split}
-use Rattle.sop_fixed.specs.Numerals.{number_of}
 use Rattle.sop_fixed.specs.declared.vec3.Vec3.{Vec3}
 use Rattle.sop_model.specs.declared.geo.Corner.{Corner}
 use Rattle.sop_model.specs.declared.geo.Primitive.{Primitive}
-use Rattle.sop_model.specs.Vertices.{corners_of, size_of, first_vertex_in}
+use Rattle.sop_model.specs.Vertices.{corners_of}
+use Rattle.sop_model.specs.Limits.{most_points, most_prims, most_vertices}
 use Rattle.sop_model.specs.Geometry.{empty_row}
 use Rattle.geo_text.specs.declared.fault.ObjFault.{ObjFault}
 use Rattle.geo_text.specs.declared.part.Part.{Part}
@@ -30,31 +27,6 @@ drop_here all i x lt is = rw add-one (drop-cons all i x lt ∙ ap (λ y. y ∷ d
 
 pub drop_ended : {A : Type 0} (n : ℕ) (all : List A) → n ≡ length all → drop n all ≡ []
 drop_ended n all e = drop_all n all (omega arith)
-
--- ---- digits
-pub on_cons : (number c : ℕ) (rest : List ℕ) → (number * 10 + (c - 48)) * 10 ^ length rest + number_of rest ≡ number * 10 ^ length (c ∷ rest) + number_of (c ∷ rest)
-on_cons number c rest = rw pow-suc (omega arith)
-
-pub digits_on : (number : ℕ) (digits : List ℕ) (i : ℕ) → i < length digits
-    → (number * 10 + (get_or digits i 0 - 48)) * 10 ^ length (drop (i + 1) digits) + number_of (drop (i + 1) digits) ≡ number * 10 ^ length (drop i digits) + number_of (drop i digits)
-digits_on number digits i lt =
-    let e : get_or digits i 0 ∷ drop (i + 1) digits ≡ drop i digits = rw (add-one, drop-cons digits i 0) in
-    on_cons number (get_or digits i 0) (drop (i + 1) digits) ∙ ap (λ l. number * 10 ^ length l + number_of l) e
-
-pub digit_between : (digits : List ℕ) (i : ℕ) → list_all is_ascii_digit digits ≡ true → i < length digits → (48 ≤ get_or digits i 0) × (get_or digits i 0 ≤ 57)
-digit_between [] i all lt = absurd (omega arith)
-digit_between (d ∷ digits) zero all lt =
-    let first = (and_parts (is_ascii_digit d) (list_all is_ascii_digit digits) all).0 in
-    (grind (arith, nat_tests), grind (arith, nat_tests))
-digit_between (d ∷ digits) (suc i) all lt = digit_between digits i (and_parts (is_ascii_digit d) (list_all is_ascii_digit digits) all).1 (omega arith)
-
-pub below_power : (number i c : ℕ) → number < 10 ^ i → c ≤ 57 → number * 10 + (c - 48) < 10 ^ (i + 1)
-below_power number i c lt le = rw (add-one, pow-suc) (omega arith)
-
-pub below_million : (number i : ℕ) → number < 10 ^ i → i ≤ 8 → number < 100000000
-below_million number i lt le =
-    let most : 10 ^ i ≤ 10 ^ 8 = pow-le-pow_right {n = 10} (lit≤ tt) le in
-    omega arith
 
 -- ---- the first space
 found_at : (b : Bool) (i j : ℕ) → cond b (Some i) None ≡ Some j → (b ≡ true) × (i ≡ j)
@@ -115,7 +87,7 @@ module _ (line key words : List ℕ) (some : (length line == 0) ≡ false) (piec
   pub corners_line_of : key ≡ codes "f" → first_part line ≡ option_map Face (first_corners (pieces_of words))
   corners_line_of is = face_line_of is ∙ ap (option_map Face) (pieces_face (pieces_of words) (omega (arith, length-slice_split (λ b. b == 32) words)))
 
-pub face_too_long : (o : Option (List Corner)) → IfSome o (λ cs. 4000000 < length cs) → IfSome (option_map Face o) (λ part. 4000000 < vertices_of part)
+pub face_too_long : (o : Option (List Corner)) → IfSome o (λ cs. most_vertices < length cs) → IfSome (option_map Face o) (λ part. most_vertices < vertices_of part)
 face_too_long None h = tt
 face_too_long (Some cs) h = h
 
@@ -157,7 +129,7 @@ module _ (all : List (List ℕ)) (i : ℕ) (word : List ℕ) (front : List Corne
   pub corners_stop : first_corner word ≡ None → before front (first_corners (drop i all)) ≡ None
   corners_stop e = ap (before front) (corners_here ∙ ap (λ o. before_others o (first_corners (drop (i + 1) all))) e)
 
-pub corners_many : (front : List Corner) (rest : Option (List Corner)) → 4000000 < length front → IfSome (before front rest) (λ cs. 4000000 < length cs)
+pub corners_many : (front : List Corner) (rest : Option (List Corner)) → most_vertices < length front → IfSome (before front rest) (λ cs. most_vertices < length cs)
 corners_many front None h = tt
 corners_many front (Some cs) h = omega (arith, length-append front cs)
 
@@ -172,8 +144,8 @@ onto_end front = simp append-nil
 pub lines_here : (all : List (List ℕ)) (i : ℕ) (line : List ℕ) → i < length all → line ≡ get_or all i line → first_sheet (drop i all) ≡ first_joined (first_part line) (first_sheet (drop (i + 1) all))
 lines_here all i line lt is = ap first_sheet (drop_here all i line lt is)
 
-small_parts : (points prims vertices more_points more_prims more_vertices : ℕ) → (nat_le points 1000000 && nat_le prims 1000000 && nat_le vertices 4000000) ≡ false
-    → (nat_le (points + more_points) 1000000 && nat_le (prims + more_prims) 1000000 && nat_le (vertices + more_vertices) 4000000) ≡ false
+small_parts : (points prims vertices more_points more_prims more_vertices : ℕ) → (nat_le points most_points && nat_le prims most_prims && nat_le vertices most_vertices) ≡ false
+    → (nat_le (points + more_points) most_points && nat_le (prims + more_prims) most_prims && nat_le (vertices + more_vertices) most_vertices) ≡ false
 small_parts points prims vertices more_points more_prims more_vertices h = grind (arith, nat_tests)
 
 pub onto_large : (front : Sheet) (rest : Option Sheet) → is_small front ≡ false → IfSome (onto front rest) (λ s. is_small s ≡ false)
@@ -182,10 +154,10 @@ onto_large front (Some s) h =
     let whole = small_parts (length front.points) (length front.prims) (length (corners_of front.prims)) (length s.points) (length s.prims) (length (corners_of s.prims)) h in
     rw (length-append front.points s.points, length-append front.prims s.prims, flat_map-append (λ p. p.corners) front.prims s.prims, length-append (corners_of front.prims) (corners_of s.prims)) whole
 
-many_vertices : (points prims before vertices after : ℕ) → 4000000 < vertices → (nat_le points 1000000 && nat_le prims 1000000 && nat_le (before + (vertices + after)) 4000000) ≡ false
+many_vertices : (points prims before vertices after : ℕ) → most_vertices < vertices → (nat_le points most_points && nat_le prims most_prims && nat_le (before + (vertices + after)) most_vertices) ≡ false
 many_vertices points prims before vertices after h = grind (arith, nat_tests)
 
-pub onto_long : (front : Sheet) (o : Option Part) (rest : Option Sheet) → IfSome o (λ part. 4000000 < vertices_of part) → IfSome (onto front (first_joined o rest)) (λ s. is_small s ≡ false)
+pub onto_long : (front : Sheet) (o : Option Part) (rest : Option Sheet) → IfSome o (λ part. most_vertices < vertices_of part) → IfSome (onto front (first_joined o rest)) (λ s. is_small s ≡ false)
 onto_long front None rest h = tt
 onto_long front (Some part) None h = tt
 onto_long front (Some Nothing) (Some s) h = absurd (omega arith)
@@ -195,10 +167,6 @@ onto_long front (Some (Face corners)) (Some s) h =
     let prims : List Primitive = front.prims ++ face ∷ s.prims in
     rw (flat_map-append (λ p. p.corners) front.prims (face ∷ s.prims), length-append (corners_of front.prims) (corners ++ corners_of s.prims), length-append corners (corners_of s.prims))
     (many_vertices (length (front.points ++ s.points)) (length prims) (length (corners_of front.prims)) (length corners) (length (corners_of s.prims)) h)
-
--- ---- the vertices of a list of primitives
-pub length-corners_of : (prims : List Primitive) → length (corners_of prims) ≡ first_vertex_in prims (length prims)
-length-corners_of prims = length-flat_map (λ p. p.corners) prims ∙ ap (sum_by size_of) (sym (take_all (length prims) prims (omega arith)))
 
 pub same_fault : {T : Type 0} (a b : ObjFault) → ◌≡◌ {A = Result T ObjFault} (Err a) (Err b) → a ≡ b
 same_fault a b e = cc

@@ -1,46 +1,12 @@
 -- What a view of a geometry with `P` alone gives, as its text wants it.
-use Rattle.std.proofs.Common.{◌≡◌, ℕ, zero, suc, ◌+◌, ◌<◌, ◌≤◌, List, [], ◌∷◌, ◌++◌, length, map, get_or, take, drop, append_assoc, append-nil, length-append, refl, sym, ap, subst, ◌∙◌, arith, Option, Some, None, Bool}
+use Rattle.std.proofs.Common.{◌≡◌, ℕ, zero, suc, ◌+◌, ◌≤◌, List, [], ◌∷◌, ◌++◌, length, take, drop, append_assoc, append-nil, length-append, refl, sym, ap, subst, ◌∙◌, arith, Option, Some, None, Bool}
 use Rattle.std.specs.Prelude.{slice_get, codes, if◌then◌else◌}
 use Rattle.std.specs.List.{flat_map}
-use Rattle.std.specs.Option.{option_map, option_and_then}
+use Rattle.std.specs.Option.{option_map}
 use Rattle.std.proofs.lemmas.List.Sums.{sum_by-cons}
-use Rattle.std.proofs.lemmas.Option.{slice_get-get_or}
-use Rattle.sop_fixed.specs.declared.vec3.Vec3.{Vec3}
-use Rattle.sop_model.specs.declared.class.Class.TheVariants as class
-use Rattle.sop_model.specs.declared.geo.Geo.{Geo}
 use Rattle.sop_model.specs.declared.geo.Primitive.{Primitive}
-use Rattle.sop_model.specs.declared.value.Kind.TheVariants as kind
-use Rattle.sop_model.specs.declared.value.Value.{Value}
-use Rattle.sop_model.specs.declared.value.ValueRef.{ValueRef}
-use Rattle.sop_model.specs.declared.value.ValueRef.TheVariants as ref
-use Rattle.sop_model.specs.Values.{kind_of, value_seen}
-use Rattle.sop_model.specs.Geometry.{empty_row, value_at, IsReadable, HasOnlyPosition}
 use Rattle.sop_model.specs.Vertices.{size_of, corners_of, first_vertex_in}
 use Rattle.geo_text.specs.ObjWriting.{reference_text, primitive_line}
-
--- ---- the value of `P` is a vector
-first_kind : (values : List Value) (v : Value) → map kind_of values ≡ kind.Vector ∷ [] → slice_get values 0 ≡ Some v → kind_of v ≡ kind.Vector
-first_kind [] v kinds is = cc
-first_kind (w ∷ values) v kinds is = let same : w ≡ v = cc in ap kind_of (sym same) ∙ cc
-
-not_vector : (r : ValueRef) → kind_of (value_seen r) ≡ kind.Vector → ((x : Vec3) → r ≡ ref.Vector x → ⊥) → ⊥
-not_vector (ref.Int n) k other = cc
-not_vector (ref.Real x) k other = cc
-not_vector (ref.Vector v) k other = other v refl
-not_vector (ref.Str text) k other = cc
-not_vector (ref.Ints list) k other = cc
-not_vector (ref.Reals list) k other = cc
-not_vector (ref.Vectors list) k other = cc
-not_vector (ref.Strs list) k other = cc
-
-pub place_is_vector : (g : Geo) (point : ℕ) (r : ValueRef) → IsReadable g → HasOnlyPosition g → point < length g.points → value_at g class.Point 0 point ≡ Some (value_seen r) → ((x : Vec3) → r ≡ ref.Vector x → ⊥) → ⊥
-place_is_vector g point r readable position lt is other =
-    let row = get_or g.points point empty_row in
-    let found : slice_get g.points point ≡ Some row = slice_get-get_or g.points point empty_row lt in
-    let fits = readable.sound.rows class.Point point empty_row lt in
-    let kinds : map kind_of row.values ≡ kind.Vector ∷ [] = fits.kinds ∙ ap (λ set. map (λ h. h.kind) set.heads) position.point in
-    let value : slice_get row.values 0 ≡ Some (value_seen r) = ap (option_and_then (λ row. slice_get row.values 0)) (sym found) ∙ is in
-    not_vector r (first_kind row.values (value_seen r) kinds value) other
 
 -- ---- one more item of a list
 pub flat_map_more : {A : Type 0} (f : A → List ℕ) (xs : List A) (i : ℕ) (x : A) → slice_get xs i ≡ Some x → flat_map f (take (i + 1) xs) ≡ flat_map f (take i xs) ++ f x
@@ -120,6 +86,11 @@ pub prims_more : (prims : List Primitive) (i : ℕ) (old text longer : List ℕ)
 prims_more prims i old text longer e so_far =
     let (p, here, is) = mapped_some (λ p. text ++ primitive_line p) (slice_get prims i) longer e in
     sym is ∙ ap (λ t. t ++ primitive_line p) so_far ∙ append_assoc old (flat_map primitive_line (take i prims)) (primitive_line p) ∙ ap (λ l. old ++ l) (sym (flat_map_more primitive_line prims i p here))
+
+-- a text that grew by one more item
+pub list_more : {A : Type 0} (f : A → List ℕ) (xs : List A) (i : ℕ) (x : A) (old text longer : List ℕ) → slice_get xs i ≡ Some x → longer ≡ text ++ f x → text ≡ old ++ flat_map f (take i xs) → longer ≡ old ++ flat_map f (take (i + 1) xs)
+list_more f xs i x old text longer is more so_far =
+    more ∙ ap (λ t. t ++ f x) so_far ∙ append_assoc old (flat_map f (take i xs)) (f x) ∙ ap (λ l. old ++ l) (sym (flat_map_more f xs i x is))
 
 -- a text that grew by what is read of one more item
 pub text_more : {A B : Type 0} (h : A → B) (f : B → List ℕ) (xs : List A) (i : ℕ) (y : B) (old text longer : List ℕ) → option_map h (slice_get xs i) ≡ Some y → longer ≡ text ++ f y → text ≡ old ++ flat_map (λ x. f (h x)) (take i xs) → longer ≡ old ++ flat_map (λ x. f (h x)) (take (i + 1) xs)

@@ -9,13 +9,14 @@ use Rattle.sop_fixed.specs.Numerals.{is_some_digits, number_of, value_of}
 use Rattle.sop_fixed.specs.declared.vec3.Vec3.{Vec3}
 use Rattle.sop_model.specs.declared.geo.Corner.{Corner}
 use Rattle.sop_model.specs.declared.geo.Primitive.{Primitive}
+use Rattle.sop_model.specs.Limits.{most_points, most_prims, most_vertices}
 use Rattle.sop_model.specs.Geometry.{empty_row}
 use Rattle.sop_model.specs.Vertices.{corners_of}
 use Rattle.geo_text.specs.declared.part.Part.{Part}
 use Rattle.geo_text.specs.declared.part.Part.TheVariants.{Nothing, Position, Face}
 use Rattle.geo_text.specs.declared.sheet.Sheet.{Sheet}
 use Rattle.geo_text.specs.ObjReading.{is_filled, with_part}
-use Rattle.geo_text.specs.ObjForm.{pieces_of, is_word}
+use Rattle.geo_text.specs.ObjForm.{pieces_of, is_word, most_digits}
 
 abbrev pub first_coordinate : List ℕ → Option ℤ
 first_coordinate word = if is_word word then result_ok (value_of word) else None
@@ -30,10 +31,10 @@ abbrev pub first_position : List (List ℕ) → Option Vec3
 first_position (x ∷ y ∷ z ∷ []) = first_vector (first_coordinate x) (first_coordinate y) (first_coordinate z)
 first_position _ = None
 
--- A number from 1 on, of at most 9 digits.
+-- A number from 1 on, of few digits.
 abbrev pub first_corner : List ℕ → Option Corner
 first_corner word =
-    if is_some_digits word && nat_le (length word) 9 && nat_lt 0 (number_of word)
+    if is_some_digits word && nat_le (length word) most_digits && nat_lt 0 (number_of word)
     then Some (record { point = number_of word - 1; row = empty_row }) else None
 
 abbrev pub before_others : {A : Type 0} → Option A → Option (List A) → Option (List A)
@@ -77,9 +78,9 @@ are_within total prims = list_all (λ p. are_corners_within total p.corners) pri
 abbrev pub onto : Sheet → Option Sheet → Option Sheet
 onto front rest = option_map (λ s. record { points = front.points ++ s.points; prims = front.prims ++ s.prims }) rest
 
--- At most 1,000,000 points, 1,000,000 primitives and 4,000,000 vertices.
+-- No more points, primitives and vertices than a geometry may have.
 abbrev pub is_small : Sheet → Bool
-is_small s = nat_le (length s.points) 1000000 && nat_le (length s.prims) 1000000 && nat_le (length (corners_of s.prims)) 4000000
+is_small s = nat_le (length s.points) most_points && nat_le (length s.prims) most_prims && nat_le (length (corners_of s.prims)) most_vertices
 
 abbrev pub vertices_of : Part → ℕ
 vertices_of Nothing = 0

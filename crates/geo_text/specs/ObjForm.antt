@@ -1,12 +1,12 @@
 -- The form of OBJ texts that is read by now. Each line ends with LF, and is empty or has single spaces between its words
 -- and none at its ends. The words are `v` and three numerals in range, or `f` and at least one whole number from 1 to the
--- number of `v` lines of the text, of at most 9 digits.
+-- number of `v` lines of the text, of few digits.
 use Rattle.std.specs.Prelude.{ℕ, ◌-◌, Bool, true, false, ◌&&◌, ◌||◌, not, nat_le, nat_lt, ◌==◌, List, [], ◌∷◌, length, slice_get, is_ok, codes}
 use Rattle.std.specs.Option.{option_map_or}
 use Rattle.std.specs.List.{list_all, slice_split}
 use Rattle.std.specs.Str.{bytes_eq}
 use Rattle.sop_fixed.specs.Numerals.{is_some_digits, number_of, value_of}
-use Rattle.geo_text.specs.ObjReading.{lines_of, worded_lines, positions_in, is_blank, is_filled}
+use Rattle.geo_text.specs.ObjReading.{lines_of, worded_lines, positions_in, is_obj_blank, is_filled}
 
 -- The last byte, if there is one, is LF.
 abbrev pub ends_with_line_feed : List ℕ → Bool
@@ -17,14 +17,18 @@ abbrev pub pieces_of : List ℕ → List (List ℕ)
 pieces_of line = slice_split (λ b. b == 32) line
 
 abbrev pub is_word : List ℕ → Bool
-is_word piece = is_filled piece && list_all (λ b. not (is_blank b)) piece
+is_word piece = is_filled piece && list_all (λ b. not (is_obj_blank b)) piece
 
 abbrev pub are_three_numerals : List (List ℕ) → Bool
 are_three_numerals (x ∷ y ∷ z ∷ []) = is_ok (value_of x) && is_ok (value_of y) && is_ok (value_of z)
 are_three_numerals _ = false
 
+-- the digits of the number of a point
+abbrev pub most_digits : ℕ
+most_digits = 9
+
 abbrev pub is_point_number : ℕ → List ℕ → Bool
-is_point_number total word = is_some_digits word && nat_le (length word) 9 && nat_lt 0 (number_of word) && nat_le (number_of word) total
+is_point_number total word = is_some_digits word && nat_le (length word) most_digits && nat_lt 0 (number_of word) && nat_le (number_of word) total
 
 abbrev pub are_point_numbers : ℕ → List (List ℕ) → Bool
 are_point_numbers total words = is_filled words && list_all (is_point_number total) words

@@ -7,13 +7,12 @@ use Rattle.std.specs.List.{slice_split}
 use Rattle.std.specs.Str.{bytes_eq}
 use Rattle.sop_fixed.specs.Numerals.{has_minus, after_sign, is_some_digits, number_of, value_of}
 use Rattle.sop_fixed.specs.declared.fault.NumeralFault.{NumeralFault}
-use Rattle.sop_fixed.specs.declared.vec3.Vec3.{Vec3}
 use Rattle.sop_model.specs.declared.geo.Geo.{Geo}
-use Rattle.sop_model.specs.declared.geo.Row.{Row}
 use Rattle.sop_model.specs.declared.geo.Corner.{Corner}
 use Rattle.sop_model.specs.declared.geo.Primitive.{Primitive}
-use Rattle.sop_model.specs.Geometry.{empty_row, empty_geo}
-use Rattle.sop_model.specs.Plain.{point_row}
+use Rattle.sop_model.specs.Limits.{most_points, most_prims, most_vertices}
+use Rattle.sop_model.specs.Geometry.{empty_row}
+use Rattle.sop_model.specs.Plain.{point_row, plain_geo}
 use Rattle.geo_text.specs.declared.sheet.Sheet.{Sheet}
 use Rattle.geo_text.specs.declared.part.Part.{Part}
 use Rattle.geo_text.specs.declared.part.Part.TheVariants.{Nothing, Position, Face}
@@ -22,9 +21,9 @@ use Rattle.geo_text.specs.declared.part.Part.TheVariants.{Nothing, Position, Fac
 abbrev pub lines_of : List ℕ → List (List ℕ)
 lines_of bytes = slice_split (λ b. b == 10) bytes
 
--- space, tab, CR, vertical tab and form feed
-abbrev pub is_blank : ℕ → Bool
-is_blank b = (b == 32) || (b == 9) || (b == 13) || (b == 11) || (b == 12)
+-- The blanks of OBJ: space, tab, CR, vertical tab and form feed.
+abbrev pub is_obj_blank : ℕ → Bool
+is_obj_blank b = (b == 32) || (b == 9) || (b == 13) || (b == 11) || (b == 12)
 
 abbrev pub is_filled : {A : Type 0} → List A → Bool
 is_filled [] = false
@@ -32,7 +31,7 @@ is_filled (x ∷ xs) = true
 
 -- The words of a line are its longest runs of bytes that aren't blanks.
 abbrev pub words_of : List ℕ → List (List ℕ)
-words_of line = filter is_filled (slice_split is_blank line)
+words_of line = filter is_filled (slice_split is_obj_blank line)
 
 -- The lines of a text, as their words.
 abbrev pub worded_lines : List ℕ → List (List (List ℕ))
@@ -141,12 +140,12 @@ sheet_from line total so_far (words ∷ lines) =
     joined (part_of line total so_far words)
     (sheet_from (line + 1) total (so_far + (if is_position_line words then 1 else 0)) lines)
 
--- At most 1,000,000 points, 4,000,000 references and 1,000,000 primitives.
+-- Whether there are more points, references or primitives than a geometry may have.
 abbrev pub passes_limits : List (List (List ℕ)) → Bool
-passes_limits lines = nat_lt 1000000 (positions_in lines) || nat_lt 4000000 (references_in lines) || nat_lt 1000000 (faces_in lines)
+passes_limits lines = nat_lt most_points (positions_in lines) || nat_lt most_vertices (references_in lines) || nat_lt most_prims (faces_in lines)
 
 abbrev pub geo_of : Sheet → Geo
-geo_of sheet = record empty_geo { points = sheet.points; prims = sheet.prims }
+geo_of sheet = plain_geo sheet.points sheet.prims
 
 -- A limit is decided before every line.
 abbrev pub geo_of_lines : List (List (List ℕ)) → Result Geo Refusal

@@ -1,21 +1,22 @@
 // Geometries read from OBJ texts.
 ghost use Rattle.std.specs.Prelude.{◌≡◌, ◌<◌, ◌≤◌, ◌==◌, ◌∷◌, length, map, None, Some, Option, IfOk, IfSome, OnOk, IsTrue, true, false, not, Err, ◌⊎◌};
 ghost use Rattle.std.specs.List.{list_all, position};
-ghost use Rattle.std.specs.Char.{is_ascii_digit};
-ghost use Rattle.sop_fixed.specs.Numerals.{is_some_digits, number_of};
+ghost use Rattle.sop_model.specs.Limits.{most_vertices};
 ghost use Rattle.sop_model.specs.Geometry.{IsGood, Fits, HasOnlyPosition};
-ghost use Rattle.geo_text.specs.ObjReading.{obj_geo, Limit, lines_of, is_blank};
+ghost use Rattle.geo_text.specs.ObjReading.{obj_geo, Limit, lines_of, is_obj_blank};
 ghost use Rattle.geo_text.specs.ObjForm.{has_first_form, ends_with_line_feed, pieces_of, is_word};
 ghost use Rattle.geo_text.specs.ObjFirst.{first_coordinate, first_position, first_corner, first_corners, first_part, first_sheet, is_small, vertices_of, pieces_left};
 
 use crate::fault::ObjFault;
 use crate::part::Part;
 use crate::sheet::Sheet;
-use sop_fixed::{Real, Vec3, read_numeral};
+use sop_fixed::{Real, Vec3, read_number, read_numeral};
+use sop_model::limits::MOST_VERTICES;
 use sop_model::{Corner, CornerList, Geo, Row};
 use std::alloc::Global;
 
-const MOST_VERTICES: usize = 4_000_000;
+/// The most digits of the number of a point.
+const MOST_DIGITS: usize = 9;
 
 /// The geometry of an OBJ text: a line `v x y z` is a point, and a line `f 1 2 3` a closed primitive of the points of these numbers.
 /// `NotYet` exactly where the text hasn't the first form or passes a limit, which is 1,000,000 points, 1,000,000 primitives
@@ -70,7 +71,7 @@ fn read_lines(alloc: Global, bytes: &[u8]) -> Result<Sheet, ObjFault>
 /// `NotYet` where the line hasn't the form, or has more references than a geometry may have vertices.
 fn read_line(alloc: Global, line: &[u8]) -> Result<Part, ObjFault>
     ensures ok { IfOk result (λ part. first_part line.now ≡ Some part) }
-    ensures not_yet { result ≡ Err ObjFault.NotYet → IfSome (first_part line.now) (λ part. 4000000 < vertices_of part) }
+    ensures not_yet { result ≡ Err ObjFault.NotYet → IfSome (first_part line.now) (λ part. most_vertices < vertices_of part) }
 {
     if line.is_empty() {
         return Ok(Part::Nothing);
@@ -137,13 +138,13 @@ fn is_word(piece: &[u8]) -> bool
 }
 
 fn has_no_blank(piece: &[u8]) -> bool
-    ensures { result ≡ list_all (λ b. not (is_blank b)) piece.now }
+    ensures { result ≡ list_all (λ b. not (is_obj_blank b)) piece.now }
 {
-    piece.iter().all(|b| !is_blank(*b))
+    piece.iter().all(|b| !is_obj_blank(*b))
 }
 
-fn is_blank(b: u8) -> bool
-    ensures { result ≡ is_blank b }
+fn is_obj_blank(b: u8) -> bool
+    ensures { result ≡ is_obj_blank b }
 {
     matches!(b, b' ' | b'\t' | b'\r' | 0x0b | 0x0c)
 }
@@ -151,7 +152,7 @@ fn is_blank(b: u8) -> bool
 /// `NotYet` where a word is no number from 1 on, or there are more than a geometry may have vertices.
 fn read_corners(alloc: Global, words: &[u8]) -> Result<CornerList, ObjFault>
     ensures ok { IfOk result (λ corners. first_corners (pieces_of words.now) ≡ Some corners) }
-    ensures not_yet { result ≡ Err ObjFault.NotYet → IfSome (first_corners (pieces_of words.now)) (λ corners. 4000000 < length corners) }
+    ensures not_yet { result ≡ Err ObjFault.NotYet → IfSome (first_corners (pieces_of words.now)) (λ corners. most_vertices < length corners) }
 {
     let mut corners = CornerList::new(alloc);
     for word in words.split(|b| *b == b' ') {
@@ -166,37 +167,16 @@ fn read_corners(alloc: Global, words: &[u8]) -> Result<CornerList, ObjFault>
     Ok(corners)
 }
 
-/// A number from 1 on, of at most 9 digits.
+/// A number from 1 on, of few digits.
 fn read_corner(alloc: Global, word: &[u8]) -> Option<Corner>
     ensures { result ≡ first_corner word.now }
 {
-    if word.is_empty() || word.len() > 9 || !all_digits(word) {
-        return None;
-    }
-    let number = number_of(word);
+    let number = read_number(word, MOST_DIGITS)?;
     if number == 0 {
         return None;
     }
     Some(Corner {
-        point: number - 1,
+        point: (number - 1) as u32,
         row: Row::empty(alloc),
     })
-}
-
-fn all_digits(text: &[u8]) -> bool
-    ensures { result ≡ list_all is_ascii_digit text.now }
-{
-    text.iter().all(|b| b.is_ascii_digit())
-}
-
-fn number_of(digits: &[u8]) -> u32
-    requires digits { list_all is_ascii_digit digits.now ≡ true }
-    requires few { length digits.now ≤ 9 }
-    ensures { result ≡ number_of digits.now }
-{
-    let mut number: u32 = 0;
-    for digit in digits {
-        number = number * 10 + u32::from(*digit - b'0');
-    }
-    number
 }

@@ -1,3 +1,4 @@
+// What no clause says: that the calls succeed with memory at hand.
 use crate::{ObjFault, read_obj, write_obj};
 use std::test::Fail;
 

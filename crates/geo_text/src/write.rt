@@ -3,12 +3,13 @@ ghost use Rattle.std.specs.Prelude.{◌≡◌, ◌<◌, ◌≤◌, ◌+◌, ◌-
 ghost use Rattle.std.specs.List.{flat_map};
 ghost use Rattle.std.specs.Option.{option_map};
 ghost use Rattle.sop_model.specs.Geometry.{IsReadable, HasOnlyPosition};
+ghost use Rattle.sop_model.specs.Places.{places_of};
 ghost use Rattle.sop_model.specs.Vertices.{corners_of};
-ghost use Rattle.geo_text.specs.ObjWriting.{obj_text, place_of, position_line, reference_text, point_text, primitive_line};
+ghost use Rattle.geo_text.specs.ObjWriting.{obj_text, position_line, reference_text, point_text, primitive_line};
 
 use itoa::Buffer;
 use sop_fixed::{Vec3, print};
-use sop_model::{Class, GeoView, ValueRef};
+use sop_model::{Class, GeoView, place_of};
 use std::alloc::{AllocError, Global};
 
 /// The OBJ text of a geometry whose one attribute is `P` and which has no groups: a line `v x y z` for each point, then for
@@ -25,27 +26,13 @@ pub fn write_obj<V: GeoView>(alloc: Global, view: &V) -> Result<Vec<u8>, AllocEr
 }
 
 fn write_points<V: GeoView>(view: &V, text: &mut Vec<u8>) -> Result<(), AllocError>
-    requires readable { IsReadable (V.geo view.now) }
-    requires position { HasOnlyPosition (V.geo view.now) }
-    ensures { OnOk result (text.new.items ≡ text.old.items ++ flat_map (λ row. position_line (place_of row)) (V.geo view.now).points) }
+    requires { IsReadable (V.geo view.now) }
+    ensures { OnOk result (text.new.items ≡ text.old.items ++ flat_map position_line (places_of (V.geo view.now))) }
 {
     for point in 0..view.count(Class::Point) {
-        write_position(place(view, point), text)?;
+        write_position(place_of(view, point), text)?;
     }
     Ok(())
-}
-
-/// The value of `P` at a point.
-fn place<V: GeoView>(view: &V, point: u32) -> Vec3
-    requires readable { IsReadable (V.geo view.now) }
-    requires position { HasOnlyPosition (V.geo view.now) }
-    requires in_range { point < length (V.geo view.now).points }
-    ensures { option_map place_of (slice_get (V.geo view.now).points point) ≡ Some result }
-{
-    match view.value(Class::Point, 0, point) {
-        ValueRef::Vector(place) => place,
-        _ => unreachable!(),
-    }
 }
 
 fn write_position(place: Vec3, text: &mut Vec<u8>) -> Result<(), AllocError>

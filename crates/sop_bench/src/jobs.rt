@@ -4,11 +4,22 @@ use sop_outside::OpenGate;
 use std::alloc::Global;
 use std::thread::Threads;
 
+/// The jobs of a run.
 const JOBS: u32 = 1000;
 
+/// How often a job mixes its bits.
 const ROUNDS: u32 = 300_000;
 
-// Mixes the bits of a ticket's number again and again. Its results are tested for nothing.
+/// The most workers.
+const MOST_WORKERS: u32 = 64;
+
+/// The sum of all results, the same for each number of workers; none where memory runs out.
+pub fn sum_of_jobs<R: Threads + Sync>(rt: &R, alloc: Global, workers: u32) -> Option<u64> {
+    let outs = gather(rt, alloc, workers.clamp(1, MOST_WORKERS), JOBS, &OpenGate, &Mixing).ok()?;
+    Some(outs.iter().fold(0u64, |sum, out| sum.wrapping_add(*out)))
+}
+
+/// Mixes the bits of a ticket's number again and again. Its results are tested for nothing.
 #[derive(Drop)]
 struct Mixing;
 
@@ -32,10 +43,4 @@ impl Job for Mixing {
         }
         Ok(bits)
     }
-}
-
-/// The sum of all results, the same for each number of workers; none where memory runs out.
-pub fn sum_of_jobs<R: Threads + Sync>(rt: &R, alloc: Global, workers: u32) -> Option<u64> {
-    let outs = gather(rt, alloc, workers.clamp(1, 64), JOBS, &OpenGate, &Mixing).ok()?;
-    Some(outs.iter().fold(0u64, |sum, out| sum.wrapping_add(*out)))
 }

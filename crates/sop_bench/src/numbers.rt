@@ -3,10 +3,13 @@ ghost use Rattle.std.specs.Prelude.{◌<◌};
 
 use sop_fixed::{NumFault, Real, Vec3};
 
+/// What the state is multiplied with.
 const FACTOR: u64 = 6_364_136_223_846_793_005;
 
+/// What is added to the state.
 const STEP: u64 = 1_442_695_040_888_963_407;
 
+/// Half as many numbers as there are.
 const MIDDLE: i64 = 536_870_912;
 
 /// A linear generator. Its numbers are small enough for the result of each operation to be in range.
@@ -16,6 +19,7 @@ pub struct Numbers {
 }
 
 impl Numbers {
+    /// The numbers, the same ones each time.
     pub fn new() -> Numbers {
         Numbers { state: 1 }
     }

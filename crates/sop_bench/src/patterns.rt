@@ -1,29 +1,36 @@
 // Patterns that select points, and patterns that are matched with a name.
 ghost use Rattle.std.specs.Prelude.{◌<◌, ◌≤◌, length};
+ghost use Rattle.sop_model.specs.Limits.{most_pattern_bytes};
 
 use crate::checksum::added;
-use crate::geometry::{places, points_at};
-use sop_model::Class;
+use crate::geometry::places;
+use sop_model::{Class, Geo};
 use sop_pattern::{Pattern, matches};
 use std::alloc::Global;
 
+/// How often points are selected, so that a run is long enough to be timed.
 const SELECTIONS: u32 = 500;
 
+/// The bytes of the pattern where the name grows.
 const PATTERN: u32 = 512;
 
+/// The most bytes of a pattern and of a name.
 const LONGEST: u32 = 65_536;
 
 /// What a pattern's word holds.
 #[derive(Clone, Copy)]
 pub enum Holding {
+    /// Each thousandth point from 0 on.
     EachThousandth,
+    /// Each second point from 0 on.
     EachSecond,
+    /// All points.
     All,
 }
 
 impl Holding {
     fn word(self) -> &'static str
-        ensures { length result.now ≤ 1024 }
+        ensures { length result.now ≤ most_pattern_bytes }
     {
         match self {
             Holding::EachThousandth => "0-999999:1000",
@@ -35,7 +42,7 @@ impl Holding {
 
 /// How many of `size` points, at most 1,000,000, a word selects, asked 500 times; none where memory runs out.
 pub fn sum_of_selections(alloc: Global, holding: Holding, size: u32) -> Option<u64> {
-    let Ok(geo) = points_at(alloc, &places(alloc, size)?) else {
+    let Ok(geo) = Geo::of_points(alloc, &places(alloc, size)?) else {
         return None;
     };
     let pattern = Pattern::read(alloc, holding.word()).ok()?;

@@ -9,20 +9,32 @@ use crate::tokens::{Filling, sum_of_tokens};
 use std::alloc::Global;
 use std::thread::Threads;
 
+/// A row of a measurement: what a run does.
 #[derive(Clone, Copy)]
 pub enum Row {
+    /// Nothing, for the time of an empty run.
     Nothing,
+    /// Operations on numbers.
     Numbers(Operation),
+    /// Equal jobs by workers.
     Gather,
+    /// Tokens of a text.
     Tokens(Filling),
+    /// Cells that are set in pages of one place each.
     SetCells,
+    /// Pages that are copied by the first write.
     CopyPages,
+    /// A geometry of points.
     MakePoints,
+    /// Points that a pattern selects.
     Select(Holding),
+    /// A pattern that is matched with a name.
     Match(Growing),
+    /// The points near each point.
     FindNeighbors(Search),
 }
 
+/// Each row's name.
 const ROWS: [(&str, Row); 24] = [
     ("none", Row::Nothing),
     ("mul", Row::Numbers(Operation::Mul)),
@@ -51,6 +63,7 @@ const ROWS: [(&str, Row); 24] = [
 ];
 
 impl Row {
+    /// The row of this name.
     pub fn named(name: &str) -> Option<Row> {
         for (known, row) in &ROWS {
             if *known == name {

@@ -3,6 +3,7 @@ use crate::checksum::added;
 use std::alloc::Global;
 use vex_lexer::{Token, tokens};
 
+/// The most bytes of a text.
 const LONGEST: u32 = 65_536;
 
 /// What a text is made of.

@@ -2,6 +2,7 @@ use Rattle.std.proofs.Common.{◌≡◌, ◌==◌, ◌+◌, ◌<◌, ◌∷◌, 
 use Rattle.std.specs.Prelude.{IfSome}
 use Rattle.std.proofs.lemmas.Iterator.Splits.{YieldsList-from_slice_split}
 use Rattle.std.proofs.lemmas.Iterator.Consumers.{YieldsList-at, YieldsList-turn, YieldsList-end}
+use Rattle.sop_model.specs.Limits.{most_vertices}
 use Rattle.geo_text.specs.ObjForm.{pieces_of}
 use Rattle.geo_text.specs.ObjFirst.{first_corners}
 use Rattle.geo_text.proofs.Steps.{drop_ended, before, before_end, corners_more, corners_stop, corners_many}
@@ -12,11 +13,11 @@ returns-in_default-clause-not_yet c = λ _.
     let road = YieldsList-at c.into_iter-word-iterator.ensures.into_iter_gives (YieldsList-from_slice_split _ (λ b. b == 32) c.args.words.now c.split-word-items.ensures.rest c.split-word-items.ensures.done c.split-word-items.ensures.closure (search rules)) in
     let turn = YieldsList-turn road c.loop-word.yielded _ c.loop-word.yielded_by _ _ c.in-Some.word c.in-Some.is c.next.ensures.steps in
     let stop = corners_stop (pieces_of c.args.words.now) (length c.loop-word.yielded) c.in-Some.word.now c.loop-word.corners turn.0 turn.1 (sym c.read_corner.ensures ∙ c.in_default.is) in
-    subst (λ o. IfSome o (λ cs. 4000000 < length cs)) (sym stop ∙ c.loop-word.invariant) tt
+    subst (λ o. IfSome o (λ cs. most_vertices < length cs)) (sym stop ∙ c.loop-word.invariant) tt
 
 pub returns-then-len-gt-MOST_VERTICES-clause-not_yet : goal.returns-then-len-gt-MOST_VERTICES-clause-not_yet
 returns-then-len-gt-MOST_VERTICES-clause-not_yet c = λ _.
-    let many : 4000000 < length c.add.new.self = omega (arith, c.len.ensures, c.if-len-gt-MOST_VERTICES.true) in
+    let many : most_vertices < length c.add.new.self = omega (arith, c.len.ensures, c.if-len-gt-MOST_VERTICES.true) in
     let all = pieces_of c.args.words.now in
     let i = length c.loop-word.yielded in
     let road = YieldsList-at c.into_iter-word-iterator.ensures.into_iter_gives (YieldsList-from_slice_split _ (λ b. b == 32) c.args.words.now c.split-word-items.ensures.rest c.split-word-items.ensures.done c.split-word-items.ensures.closure (search rules)) in
@@ -25,7 +26,7 @@ returns-then-len-gt-MOST_VERTICES-clause-not_yet c = λ _.
     ap (λ cs. before cs (first_corners (drop (i + 1) all))) c.in_ok-add.ensures.ok
     ∙ corners_more all i c.in-Some.word.now c.loop-word.corners turn.0 turn.1 c.in-Some-read_corner.corner (sym c.read_corner.ensures ∙ c.in-Some-read_corner.is)
     ∙ c.loop-word.invariant in
-    subst (λ o. IfSome o (λ cs. 4000000 < length cs)) more (corners_many c.add.new.self (first_corners (drop (i + 1) all)) many)
+    subst (λ o. IfSome o (λ cs. most_vertices < length cs)) more (corners_many c.add.new.self (first_corners (drop (i + 1) all)) many)
 
 pub loop-word-preserved : goal.loop-word-preserved
 loop-word-preserved c =

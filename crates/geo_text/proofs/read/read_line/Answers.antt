@@ -1,6 +1,7 @@
 use Rattle.std.proofs.Common.{◌≡◌, ◌<◌, ◌∷◌, Err, sym, ap, ◌∙◌, subst, arith, get_or}
 use Rattle.std.specs.Prelude.{IfSome, codes}
 use Rattle.std.specs.Option.{option_map}
+use Rattle.sop_model.specs.Limits.{most_vertices}
 use Rattle.geo_text.specs.declared.fault.ObjFault.TheVariants.{NotYet}
 use Rattle.geo_text.specs.declared.part.Part.TheVariants.{Face}
 use Rattle.geo_text.specs.ObjForm.{pieces_of}
@@ -32,4 +33,4 @@ returns-in-Err-clause-not_yet c = λ e.
     let pieces = c.split_word.ensures ∙ ap (λ o. key ∷ pieces_left o) c.in-f-Some.is-1 in
     let fault = same_fault c.in-Err.fault NotYet e in
     let line = corners_line_of c.args.line.now key c.in-f-Some.words.now (sym c.is_empty.ensures ∙ c.if-is_empty.false) pieces is in
-    subst (λ o. IfSome o (λ part. 4000000 < vertices_of part)) (sym line) (face_too_long (first_corners (pieces_of c.in-f-Some.words.now)) (c.in-Err.ensures.not_yet (ap Err fault)))
+    subst (λ o. IfSome o (λ part. most_vertices < vertices_of part)) (sym line) (face_too_long (first_corners (pieces_of c.in-f-Some.words.now)) (c.in-Err.ensures.not_yet (ap Err fault)))

@@ -1,6 +1,7 @@
 use Rattle.std.proofs.Common.{◌≡◌, length}
+use Rattle.sop_pages.specs.declared.page.TheConstants.{MOST_CELLS}
 use Rattle.sop_pages.specs.Pages.{IsLive, cells}
 use Rattle.sop_bench.proofs.pages.set_each.Given as goal
 
 abbrev pub invariant-loop-i : goal.invariant-loop-i
-invariant-loop-i l = IsLive l.store l.id × (length (cells l.store l.id) ≡ 1024)
+invariant-loop-i l = IsLive l.store l.id × (length (cells l.store l.id) ≡ MOST_CELLS)

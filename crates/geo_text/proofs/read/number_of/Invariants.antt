@@ -1,6 +1,0 @@
-use Rattle.std.proofs.Common.{◌≡◌, ◌+◌, ◌*◌, ◌^◌, ◌<◌, length, drop}
-use Rattle.sop_fixed.specs.Numerals.{number_of}
-use Rattle.geo_text.proofs.read.number_of.Given as goal
-
-abbrev pub invariant-loop-digit : goal.invariant-loop-digit
-invariant-loop-digit l = (l.number * 10 ^ length (drop l.digit-index l.digits) + number_of (drop l.digit-index l.digits) ≡ number_of l.digits) × (l.number < 10 ^ l.digit-index)
