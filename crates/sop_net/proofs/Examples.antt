@@ -1,10 +1,11 @@
 -- Worked examples of the steps of a network and of the texts that parameters take, by computation.
 use Rattle.std.proofs.Common.{◌≡◌, refl, ℕ, List, [], ◌∷◌, true, false}
-use Rattle.std.specs.Prelude.{None, Some, Ok, Err, codes, pos, replicate}
+use Rattle.std.specs.Prelude.{None, Some, Ok, Err, codes, pos, replicate, map}
 use Rattle.sop_net.specs.declared.node_type.NodeType.TheVariants as type
 use Rattle.sop_net.specs.declared.net_end.NetEnd.TheVariants.{BadName, NameTaken, NoType, NoNode, NoParm, BadValue, BadInput, Cycle}
 use Rattle.sop_net.specs.declared.node.Node.{Node}
 use Rattle.sop_net.specs.Network.{Network, empty_network, new_node, used_sources}
+use Rattle.sop_net.specs.Sockets.{sockets_of}
 use Rattle.sop_net.specs.NodeTable.{default_parms, Whole, Numeral, Vector, Vectors, Flag, Choice}
 use Rattle.sop_net.specs.ParmValues.{is_value}
 use Rattle.sop_net.specs.Steps.{added_node, set_node, wired_node, removed_node}
@@ -83,6 +84,13 @@ switch_input = refl
 
 switch_unwired : used_sources (switch (codes "1")) 3 ≡ []
 switch_unwired = refl
+
+-- a switch asks for the input that it takes, which it needs; an `add` needs none
+switch_socket : map sockets_of (switch (codes "2")) ≡ (record { input = 2; is_needed = true; wire = Some 2 } ∷ []) ∷ []
+switch_socket = refl
+
+optional_socket : sockets_of (new_node 0 type.Add (codes "a")) ≡ record { input = 0; is_needed = false; wire = None } ∷ []
+optional_socket = refl
 
 -- whole numbers: leading zeros and `-0` are fine, `+`, blanks and an 11th digit aren't
 leading_zeros : is_value (Whole (pos 0) (pos 31)) (codes "0000000031") ≡ true

@@ -10,6 +10,7 @@ pub mod OrderLemmas
 pub mod DefaultLemmas
 pub mod AddLemmas
 pub mod Searches
+pub mod ValueLemmas
 pub mod StagedLemmas
 pub mod ChangeLemmas
 pub mod SetLemmas

@@ -1,13 +1,11 @@
 -- What is read of a node that stands.
-use Rattle.std.proofs.Common.{◌≡◌, Bool, true, false, cond, ◌==◌, ℕ, ◌<◌, ◌≤◌, List, [], ◌∷◌, length, refl, sym, ◌∙◌, ap, subst, arith}
+use Rattle.std.proofs.Common.{◌≡◌, Bool, true, false, cond, ◌==◌, ℕ, ◌<◌, List, [], ◌∷◌, length, refl, subst, arith}
 use Rattle.std.specs.Prelude.{All, Option, None, Some, slice_get, option_map}
 use Rattle.std.proofs.lemmas.List.Elements.{All-head, All-tail}
 use Rattle.sop_net.specs.declared.node.Node.{Node}
-use Rattle.sop_net.specs.declared.node_type.NodeType.{NodeType}
 use Rattle.sop_net.specs.declared.node_type.NodeType.TheVariants as type
-use Rattle.sop_net.specs.Limits.{most_inputs}
-use Rattle.sop_net.specs.NodeTable.{parms_of, inputs_of}
-use Rattle.sop_net.specs.Network.{node_of, parm_at, used_wires, wires_used_by, AreValues, IsNodeOf}
+use Rattle.sop_net.specs.NodeTable.{parms_of}
+use Rattle.sop_net.specs.Network.{node_of, parm_at, AreValues, IsNodeOf}
 
 -- a read of a node that stands
 pub record Read {X : Type 0} (nodes : List Node) (x : ℕ) (read : Node → X) (v : X) : Type 0 where
@@ -21,10 +19,6 @@ read_node {X} nodes x read v h = by (node_of nodes x) refl h
     by : (found : Option Node) → node_of nodes x ≡ found → option_map read found ≡ Some v → Read nodes x read v
     by None here e = let no : ⊥ = cc in absurd no
     by (Some n) here e = record { node = n; found = here; is = let same : read n ≡ v = cc in same }
-
--- a further read of the node that was found
-pub read_found : {X : Type 0} (nodes : List Node) (x : ℕ) (n : Node) (read : Node → X) (v : X) → node_of nodes x ≡ Some n → option_map read (node_of nodes x) ≡ Some v → read n ≡ v
-read_found {X} nodes x n read v found h = let e : option_map read (Some n) ≡ Some v = sym (ap (option_map read) found) ∙ h in let same : read n ≡ v = cc in same
 
 fits_by : (nodes : List Node) (x : ℕ) (m n : Node) (b : Bool) → IsNodeOf m → cond b (Some m) (node_of nodes x) ≡ Some n → (node_of nodes x ≡ Some n → IsNodeOf n) → IsNodeOf n
 fits_by nodes x m n true here h rest = let same : m ≡ n = cc in subst IsNodeOf same here
@@ -45,22 +39,3 @@ file_parms n node_type fits = some_text n.parms (subst (λ k. AreValues (parms_o
 pub first_parm : (texts : List (List ℕ)) (text : List ℕ) → slice_get texts 0 ≡ Some text → text ≡ parm_at texts 0
 first_parm [] text h = let no : ⊥ = cc in absurd no
 first_parm (t ∷ texts) text h = let same : text ≡ t = cc in same
-
-pub wires_used : (nodes : List Node) (x : ℕ) (n : Node) (node_type : NodeType) → node_of nodes x ≡ Some n → n.node_type ≡ node_type → used_wires (node_of nodes x) ≡ wires_used_by node_type n
-wires_used nodes x n node_type found is = ap used_wires found ∙ ap (λ k. wires_used_by k n) is
-
-few_inputs : (node_type : NodeType) → inputs_of node_type ≤ most_inputs
-few_inputs type.File = omega arith
-few_inputs other = omega arith
-
-few_by : (node_type : NodeType) (n : Node) → length n.wires ≤ most_inputs → length (wires_used_by node_type n) ≤ most_inputs
-few_by type.Switch n few = omega arith
-few_by other n few = few
-
--- no node uses more wires than a node has
-pub few_used : (nodes : List Node) (x : ℕ) → All IsNodeOf nodes → length (used_wires (node_of nodes x)) ≤ most_inputs
-few_used nodes x all = by (node_of nodes x) refl
-  where
-    by : (found : Option Node) → node_of nodes x ≡ found → length (used_wires found) ≤ most_inputs
-    by None here = omega arith
-    by (Some n) here = few_by n.node_type n (let few = few_inputs n.node_type in let e = (node_fits nodes x n all here).inputs in omega (arith, few, e))

@@ -9,7 +9,8 @@ use Rattle.sop_net.specs.NodeTable.{parms_of}
 use Rattle.sop_net.specs.Order.{IsKept}
 use Rattle.sop_net.specs.Steps.{refusal_of_pair, refusal_of_pairs, first_of, set_at, with_pairs, with_changed, unless_refused, set_on, set_node}
 use Rattle.sop_net.proofs.ChangeLemmas.{same-read, kept-rewired_not, on_named-at}
-use Rattle.sop_net.proofs.StagedLemmas.{values-length, values-pairs}
+use Rattle.sop_net.proofs.StagedLemmas.{values-pairs}
+use Rattle.sop_net.proofs.ValueLemmas.{values-length}
 
 module _ (nodes : List Node) (names : List (List ℕ)) (order : List ℕ) (added at : ℕ) (kept : IsKept nodes names order added) (within : at < length nodes) (m n : Node) (judged : m ≡ get_or nodes at m) (read : n ≡ get_or nodes at n) where
   is-node : IsNodeOf n

@@ -118,12 +118,6 @@ values-set (q ∷ parms) [] i p value v e h = absurd v
 values-set (q ∷ parms) (t ∷ texts) zero p value v e h = (let same : q ≡ p = cc in subst (λ r. IsTrue (is_value r.kind value)) (sym same) h, v.1)
 values-set (q ∷ parms) (t ∷ texts) (suc i) p value v e h = (v.0, values-set parms texts i p value v.1 e h)
 
-pub values-length : (parms : List Parm) (texts : List (List ℕ)) → AreValues parms texts → length texts ≡ length parms
-values-length [] [] v = refl
-values-length [] (t ∷ texts) v = absurd v
-values-length (p ∷ parms) [] v = absurd v
-values-length (p ∷ parms) (t ∷ texts) v = ap suc (values-length parms texts v.1)
-
 values-found : (found : Option Parm) (place : Option ℕ) (parms : List Parm) (texts : List (List ℕ)) (value : List ℕ)
     → ((i : ℕ) → place ≡ Some i → found ≡ slice_get parms i) → AreValues parms texts → refusal_of_value found value ≡ None → AreValues parms (set_at place texts value)
 values-found found None parms texts value at v fine = v

@@ -257,17 +257,6 @@ impl Net {
         self.at(node).wires.source(input)
     }
 
-    /// The source of a used wire: of a switch, `i` 0 is the wire into the input that it takes; of every other node, `i` is the input number.
-    pub fn used_source(&self, node: NodeId, i: u32) -> Option<NodeId>
-        requires { IsLive self.now.nodes node }
-        ensures { result ≡ wire_at (used_wires (node_of self.now.nodes node)) i }
-    {
-        match self.at(node).used_wires().get(i as usize) {
-            Some(wire) => *wire,
-            None => None,
-        }
-    }
-
     /// The wires that a node uses, by input number: of a switch the one into the input that it takes, of every other node all.
     pub fn used_wires(&self, node: NodeId) -> &[Option<NodeId>]
         requires { IsLive self.now.nodes node }
@@ -293,16 +282,6 @@ impl Net {
         ensures { file_of self.now.nodes node ≡ Some result.now }
     {
         self.at(node).file_name()
-    }
-
-    /// The input that a switch takes, 0 to 31. The node stands and is a switch.
-    pub fn switch_input(&self, node: NodeId) -> u32
-        requires live { IsLive self.now.nodes node }
-        requires switch { option_map (λ n. n.node_type) (node_of self.now.nodes node) ≡ Some NodeType.Switch }
-        ensures value { option_map switch_input (node_of self.now.nodes node) ≡ Some result }
-        ensures range { result < most_inputs }
-    {
-        self.at(node).switch_input() as u32
     }
 
     /// The number of nodes.
