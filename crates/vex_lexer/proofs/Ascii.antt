@@ -4,13 +4,16 @@ use Rattle.std.proofs.lemmas.Bool.{and_parts}
 use Rattle.std.proofs.lemmas.Bool.Decides.{Decides-eqb}
 use Rattle.std.proofs.lemmas.Grind.{common_steps}
 use Rattle.std.proofs.lemmas.Slice.Eq.{bytes_eq-Decides}
-use Rattle.std.proofs.lemmas.List.{get_or-drop, length-drop}
+use Rattle.std.proofs.lemmas.List.{get_or-drop, length-drop, take_all}
 use Rattle.std.proofs.lemmas.Str.{IsCharBoundary-before_ascii, IsCharBoundary-after_ascii}
 use Rattle.std.specs.Str.{IsUtf8, IsCharBoundary}
 use Rattle.std.specs.List.{list_all, list_any, starts_with}
 use Rattle.std.specs.Char.{is_ascii_digit}
 use Rattle.sop_fixed.specs.Numerals.{is_sign, is_point, is_exponent_mark, is_some_digits}
-use Rattle.vex_lexer.specs.Words.{begins, is_number, is_name_start, is_name_byte, is_name, marks, is_marked_name, is_attribute_name, is_quote, is_line_end, is_closed_by, is_string, operators, is_operator, is_token}
+use Rattle.sop_model.specs.Names.{starts_name, continues_name}
+use Rattle.vex_lexer.specs.Words.{begins, is_number, is_name, marks, is_marked_name, is_attribute_name, is_quote, is_line_end, is_closed_by, is_string, is_operator, is_token}
+use Rattle.vex_lexer.specs.declared.operator.Operator.{Operator}
+use Rattle.vex_lexer.specs.Operators.{operators, text_of}
 use Rattle.vex_lexer.specs.Parts.{is_signed_digits, is_loose_number, is_fraction, begins_number}
 use Rattle.vex_lexer.proofs.Longest.{not_both}
 use Rattle.vex_lexer.proofs.Numbers.{not_number, number_loose, fraction-digit, fraction-mark, fraction-other, loose-digit, loose-point, loose-mark, loose-other}
@@ -35,10 +38,10 @@ last-drop (suc k) (b ∷ text) e = last-cons b text (last-drop k text e)
 digit_ascii : (b : ℕ) → is_ascii_digit b ≡ true → nat_lt b 128 ≡ true
 digit_ascii b d = grind (arith, common_steps)
 
-start_ascii : (b : ℕ) → is_name_start b ≡ true → nat_lt b 128 ≡ true
+start_ascii : (b : ℕ) → starts_name b ≡ true → nat_lt b 128 ≡ true
 start_ascii b d = grind (arith, common_steps)
 
-name_ascii : (b : ℕ) → is_name_byte b ≡ true → nat_lt b 128 ≡ true
+name_ascii : (b : ℕ) → continues_name b ≡ true → nat_lt b 128 ≡ true
 name_ascii b d = grind (arith, common_steps)
 
 quote_ascii : (b : ℕ) → is_quote b ≡ true → nat_lt b 128 ≡ true
@@ -58,7 +61,7 @@ all_last passes small b (c ∷ text) h = all_last passes small c text (and_parts
 
 name_last : (word : List ℕ) → is_name word ≡ true → ends_ascii word ≡ true
 name_last [] h = absurd (not_both _ h refl)
-name_last (b ∷ text) h = all_last is_name_byte name_ascii b text (and_parts _ _ h).1
+name_last (b ∷ text) h = all_last continues_name name_ascii b text (and_parts _ _ h).1
 
 marked_last : (ms : List (List ℕ)) (word : List ℕ) → list_any (λ mark. is_marked_name mark word) ms ≡ true → ends_ascii word ≡ true
 marked_last [] word h = absurd (not_both _ h refl)
@@ -84,10 +87,10 @@ string_last : (word : List ℕ) → is_string word ≡ true → ends_ascii word 
 string_last [] h = absurd (not_both _ h refl)
 string_last (quote ∷ text) h = last-cons quote text (closed_last quote false text (quote_ascii quote (and_parts _ _ h).0) (and_parts _ _ h).1)
 
-table_last : (table : List (List ℕ)) (word : List ℕ) → list_all ends_ascii table ≡ true → list_any (λ operator. bytes_eq operator word) table ≡ true → ends_ascii word ≡ true
+table_last : (table : List Operator) (word : List ℕ) → list_all (λ o. ends_ascii (text_of o)) table ≡ true → list_any (λ o. bytes_eq (text_of o) word) table ≡ true → ends_ascii word ≡ true
 table_last [] word all h = absurd (not_both _ h refl)
-table_last (o ∷ table) word all h = elim (either_true (bytes_eq o word) (list_any (λ operator. bytes_eq operator word) table) h) [
-  | inl here ↦ ap ends_ascii (sym ((bytes_eq-Decides o word).0 here)) ∙ (and_parts _ _ all).0
+table_last (o ∷ table) word all h = elim (either_true (bytes_eq (text_of o) word) (list_any (λ x. bytes_eq (text_of x) word) table) h) [
+  | inl here ↦ ap ends_ascii (sym ((bytes_eq-Decides (text_of o) word).0 here)) ∙ (and_parts _ _ all).0
   | inr more ↦ table_last table word (and_parts _ _ all).1 more
 ]
 
@@ -180,10 +183,10 @@ string_first : (word : List ℕ) → is_string word ≡ true → begins_ascii wo
 string_first [] h = absurd (not_both _ h refl)
 string_first (quote ∷ text) h = quote_ascii quote (and_parts _ _ h).0
 
-table_first : (table : List (List ℕ)) (word : List ℕ) → list_all begins_ascii table ≡ true → list_any (λ operator. bytes_eq operator word) table ≡ true → begins_ascii word ≡ true
+table_first : (table : List Operator) (word : List ℕ) → list_all (λ o. begins_ascii (text_of o)) table ≡ true → list_any (λ o. bytes_eq (text_of o) word) table ≡ true → begins_ascii word ≡ true
 table_first [] word all h = absurd (not_both _ h refl)
-table_first (o ∷ table) word all h = elim (either_true (bytes_eq o word) (list_any (λ operator. bytes_eq operator word) table) h) [
-  | inl here ↦ ap begins_ascii (sym ((bytes_eq-Decides o word).0 here)) ∙ (and_parts _ _ all).0
+table_first (o ∷ table) word all h = elim (either_true (bytes_eq (text_of o) word) (list_any (λ x. bytes_eq (text_of x) word) table) h) [
+  | inl here ↦ ap begins_ascii (sym ((bytes_eq-Decides (text_of o) word).0 here)) ∙ (and_parts _ _ all).0
   | inr more ↦ table_first table word (and_parts _ _ all).1 more
 ]
 
@@ -220,3 +223,15 @@ token_boundaries text start (suc n) utf8 h some inside =
     let small : get_or text (start + n) 0 < 128 = subst (λ b. b < 128) (get_or-drop start text n 0) last in
     let e : start + n + 1 ≡ start + suc n = omega arith in
     (IsCharBoundary-before_ascii text start first.0 first.1, subst (IsCharBoundary text) e (IsCharBoundary-after_ascii text (start + n) utf8 (omega arith) small))
+
+-- where the inside of a string may be cut out
+pub string_inside : (word : List ℕ) → IsUtf8 word → is_string word ≡ true → (2 ≤ length word) × IsCharBoundary word 1 × IsCharBoundary word (length word - 1)
+string_inside [] utf8 h = absurd (not_both _ h refl)
+string_inside (quote ∷ []) utf8 h = absurd (not_both _ (and_parts _ _ h).1 refl)
+string_inside (quote ∷ b ∷ text) utf8 h =
+    let word = quote ∷ b ∷ text in
+    let first : quote < 128 = small_from quote (quote_ascii quote (and_parts _ _ h).0) in
+    let all : take (suc (suc (length text))) word ≡ word = take_all (suc (suc (length text))) word (omega arith) in
+    let last : get_or word (suc (length text)) 0 < 128 = last_at word (suc (length text)) (ap ends_ascii all ∙ string_last word h) (omega arith) in
+    let e : suc (length text) ≡ length word - 1 = omega arith in
+    (omega arith, IsCharBoundary-after_ascii word 0 utf8 (omega arith) first, subst (IsCharBoundary word) e (IsCharBoundary-before_ascii word (suc (length text)) (omega arith) last))

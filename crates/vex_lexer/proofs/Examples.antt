@@ -1,8 +1,13 @@
 -- Worked examples: what the definitions say of texts, by computation.
-use Rattle.std.proofs.Common.{◌≡◌, ℕ, zero, suc, ◌-◌, ◌≤◌, ◌<◌, List, [], ◌∷◌, length, take, drop, refl, subst, arith, Bool, true, false, if◌then◌else◌, inl, inr, codes, lit<}
+use Rattle.std.proofs.Common.{◌≡◌, ℕ, zero, suc, ◌-◌, ◌≤◌, ◌<◌, List, [], ◌∷◌, length, take, drop, refl, subst, arith, Bool, true, false, if◌then◌else◌, inl, inr, codes, lit<, Some, None}
 use Rattle.std.proofs.lemmas.Bool.{cases_lt}
 use Rattle.std.specs.List.{slice_range}
 use Rattle.vex_lexer.specs.declared.token.Token.{Token}
+use Rattle.vex_lexer.specs.declared.token_kind.TokenKind.{TokenKind}
+use Rattle.vex_lexer.specs.declared.token_kind.TokenKind.TheVariants as kind
+use Rattle.vex_lexer.specs.declared.operator.Operator.TheVariants as mark
+use Rattle.vex_lexer.specs.TokenKinds.{kind_of}
+use Rattle.vex_lexer.specs.Escapes.{string_value}
 use Rattle.vex_lexer.specs.Longest.{IsLongest}
 use Rattle.vex_lexer.specs.Words.{is_token}
 use Rattle.vex_lexer.specs.Gaps.{is_comment, begins_comment}
@@ -111,39 +116,39 @@ unfolding greatest
 closes_nothing = tried is_comment (codes "/*/")
 
 -- the token of so many bytes of a text, with what is tried
-abbrev cut : List ℕ → ℕ → ℕ → Token
-cut text start end = record { text = slice_range text start end; start = start; end = end; line = line_of text start }
+abbrev cut : List ℕ → ℕ → ℕ → TokenKind → Token
+cut text start end is = record { text = slice_range text start end; start = start; end = end; line = line_of text start; kind = is }
 
-cut_there : (text : List ℕ) (start end : ℕ) → start < end → begins_comment (drop start text) ≡ false → IsLongest is_token (drop start text) (end - start) → IsTokenAt text start (cut text start end)
-cut_there text start end some apart longest = record { begins_here = refl; some_byte = some; no_comment = apart; longest = longest; slice = refl; line = refl }
+cut_there : (text : List ℕ) (start end : ℕ) (is : TokenKind) → kind_of (slice_range text start end) ≡ Some is → start < end → begins_comment (drop start text) ≡ false → IsLongest is_token (drop start text) (end - start) → IsTokenAt text start (cut text start end is)
+cut_there text start end is kind some apart longest = record { begins_here = refl; some_byte = some; no_comment = apart; longest = longest; slice = refl; line = refl; kind = kind }
 
 a_snippet : Spells (codes "@P.y = 1.5;") (
-    record { text = codes "@P"; start = 0; end = 2; line = 1 }
-    ∷ record { text = codes "."; start = 2; end = 3; line = 1 }
-    ∷ record { text = codes "y"; start = 3; end = 4; line = 1 }
-    ∷ record { text = codes "="; start = 5; end = 6; line = 1 }
-    ∷ record { text = codes "1.5"; start = 7; end = 10; line = 1 }
-    ∷ record { text = codes ";"; start = 10; end = 11; line = 1 } ∷ [])
+    record { text = codes "@P"; start = 0; end = 2; line = 1; kind = kind.AttributeName }
+    ∷ record { text = codes "."; start = 2; end = 3; line = 1; kind = kind.Operator mark.Point }
+    ∷ record { text = codes "y"; start = 3; end = 4; line = 1; kind = kind.Name }
+    ∷ record { text = codes "="; start = 5; end = 6; line = 1; kind = kind.Operator mark.Assign }
+    ∷ record { text = codes "1.5"; start = 7; end = 10; line = 1; kind = kind.Real }
+    ∷ record { text = codes ";"; start = 10; end = 11; line = 1; kind = kind.Operator mark.Semicolon } ∷ [])
 unfolding greatest
 a_snippet =
     let text = codes "@P.y = 1.5;" in record {
-      pieces = Word (cut text 0 2) ∷ Word (cut text 2 3) ∷ Word (cut text 3 4) ∷ Between 1 ∷ Word (cut text 5 6) ∷ Between 1 ∷ Word (cut text 7 10) ∷ Word (cut text 10 11) ∷ [];
+      pieces = Word (cut text 0 2 kind.AttributeName) ∷ Word (cut text 2 3 (kind.Operator mark.Point)) ∷ Word (cut text 3 4 kind.Name) ∷ Between 1 ∷ Word (cut text 5 6 (kind.Operator mark.Assign)) ∷ Between 1 ∷ Word (cut text 7 10 kind.Real) ∷ Word (cut text 10 11 (kind.Operator mark.Semicolon)) ∷ [];
       row = (
-        cut_there text 0 2 (lit< tt) refl (tried is_token text),
+        cut_there text 0 2 kind.AttributeName refl (lit< tt) refl (tried is_token text),
         (
-          cut_there text 2 3 (lit< tt) refl (tried is_token (drop 2 text)),
+          cut_there text 2 3 (kind.Operator mark.Point) refl (lit< tt) refl (tried is_token (drop 2 text)),
           (
-            cut_there text 3 4 (lit< tt) refl (tried is_token (drop 3 text)),
+            cut_there text 3 4 kind.Name refl (lit< tt) refl (tried is_token (drop 3 text)),
             (
               inl (refl, refl),
               (
-                cut_there text 5 6 (lit< tt) refl (tried is_token (drop 5 text)),
+                cut_there text 5 6 (kind.Operator mark.Assign) refl (lit< tt) refl (tried is_token (drop 5 text)),
                 (
                   inl (refl, refl),
                   (
-                    cut_there text 7 10 (lit< tt) refl (tried is_token (drop 7 text)),
+                    cut_there text 7 10 kind.Real refl (lit< tt) refl (tried is_token (drop 7 text)),
                     (
-                      cut_there text 10 11 (lit< tt) refl (tried is_token (drop 10 text)),
+                      cut_there text 10 11 (kind.Operator mark.Semicolon) refl (lit< tt) refl (tried is_token (drop 10 text)),
                       refl,
                     ),
                   ),
@@ -157,11 +162,11 @@ a_snippet =
     }
 
 -- LF ends a line, and CR doesn't
-second_line : Spells (13 ∷ 10 ∷ 120 ∷ []) (record { text = 120 ∷ []; start = 2; end = 3; line = 2 } ∷ [])
+second_line : Spells (13 ∷ 10 ∷ 120 ∷ []) (record { text = 120 ∷ []; start = 2; end = 3; line = 2; kind = kind.Name } ∷ [])
 unfolding greatest
 second_line = record {
-  pieces = Between 1 ∷ Between 1 ∷ Word (cut (13 ∷ 10 ∷ 120 ∷ []) 2 3) ∷ [];
-  row = (inl (refl, refl), (inl (refl, refl), (cut_there (13 ∷ 10 ∷ 120 ∷ []) 2 3 (lit< tt) refl (tried is_token (120 ∷ [])), refl)));
+  pieces = Between 1 ∷ Between 1 ∷ Word (cut (13 ∷ 10 ∷ 120 ∷ []) 2 3 kind.Name) ∷ [];
+  row = (inl (refl, refl), (inl (refl, refl), (cut_there (13 ∷ 10 ∷ 120 ∷ []) 2 3 kind.Name refl (lit< tt) refl (tried is_token (120 ∷ [])), refl)));
   same = refl;
 }
 
@@ -169,9 +174,9 @@ no_token : LacksToken (codes "a = #;") 1
 unfolding greatest
 no_token =
     let text = codes "a = #;" in record {
-      pieces = Word (cut text 0 1) ∷ Between 1 ∷ Word (cut text 2 3) ∷ Between 1 ∷ [];
+      pieces = Word (cut text 0 1 kind.Name) ∷ Between 1 ∷ Word (cut text 2 3 (kind.Operator mark.Assign)) ∷ Between 1 ∷ [];
       place = 4;
-      row = (cut_there text 0 1 (lit< tt) refl (tried is_token text), (inl (refl, refl), (cut_there text 2 3 (lit< tt) refl (tried is_token (drop 2 text)), (inl (refl, refl), refl))));
+      row = (cut_there text 0 1 kind.Name refl (lit< tt) refl (tried is_token text), (inl (refl, refl), (cut_there text 2 3 (kind.Operator mark.Assign) refl (lit< tt) refl (tried is_token (drop 2 text)), (inl (refl, refl), refl))));
       inside = lit< tt;
       no_piece = λ piece. no_piece_there text 4 piece (refl, inr (refl, tried is_token (drop 4 text)));
       at_line = refl;
@@ -188,3 +193,23 @@ unclosed_comment =
       no_piece = λ piece. no_piece_there text 0 piece (refl, inl (refl, tried is_comment text));
       at_line = refl;
     }
+
+-- what words are
+whole_number : kind_of (codes "012") ≡ Some kind.Whole
+whole_number = refl
+
+real_number : kind_of (codes "1e2") ≡ Some kind.Real
+real_number = refl
+
+no_keyword : kind_of (codes "For") ≡ Some kind.Name
+no_keyword = refl
+
+no_word : kind_of (codes "1x") ≡ None
+no_word = refl
+
+-- `'a\n\'\\é'`, with bytes for its escapes
+value_of_a_string : string_value (39 ∷ 97 ∷ 92 ∷ 110 ∷ 92 ∷ 39 ∷ 92 ∷ 92 ∷ 195 ∷ 169 ∷ 39 ∷ []) ≡ Some (97 ∷ 10 ∷ 39 ∷ 92 ∷ 195 ∷ 169 ∷ [])
+value_of_a_string = refl
+
+value_of_no_string : string_value (codes "'a") ≡ None
+value_of_no_string = refl

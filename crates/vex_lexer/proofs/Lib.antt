@@ -5,5 +5,7 @@ pub mod Closings
 pub mod Numbers
 pub mod Rows
 pub mod Ascii
+pub mod TokenKinds
+pub mod Unescaping
 pub mod Scanned
 mod Examples

@@ -1,7 +1,8 @@
 -- The longest beginning that fits: at most one length, of two tests, behind a mark, and of a table.
-use Rattle.std.proofs.Common.{◌≡◌, ℕ, zero, suc, ◌+◌, ◌-◌, ◌≤◌, ◌<◌, max, List, [], ◌∷◌, length, take, drop, refl, ap, sym, subst, ◌∙◌, arith, Bool, true, false, ◌&&◌, ◌||◌, inl, inr, nat_eq, ◌==◌, nat_cmp, bytes_eq, length-drop, get_or}
+use Rattle.std.proofs.Common.{◌≡◌, ℕ, zero, suc, ◌+◌, ◌-◌, ◌≤◌, ◌<◌, max, List, [], ◌∷◌, length, take, drop, refl, ap, sym, subst, ◌∙◌, arith, Bool, true, false, ◌&&◌, ◌||◌, inl, inr, nat_eq, ◌==◌, nat_cmp, bytes_eq, length-drop, get_or, nat_lt}
 use Rattle.std.proofs.lemmas.Bool.{cases_lt, and_from, and_parts}
 use Rattle.std.proofs.lemmas.Bool.Decides.{Decides-eqb}
+use Rattle.std.proofs.Math.Seq.{take-length}
 use Rattle.std.proofs.lemmas.List.{drop-take, length-take-le, take_more}
 use Rattle.std.proofs.lemmas.Slice.Eq.{bytes_eq-Decides}
 use Rattle.std.proofs.lemmas.List.Folds.{list_any-append}
@@ -175,3 +176,19 @@ one_more_entry test entries i d text a b inside p q =
     ∙ sym (list_any-append (λ entry. test entry word) (take i entries) (get_or entries i d ∷ []))
     ∙ ap (list_any (λ entry. test entry word)) (sym (take_more entries i d inside)))
     (either_longest (λ word. list_any (λ entry. test entry word) (take i entries)) (test (get_or entries i d)) text a b p q)
+
+-- a word fits where its longest beginning that does is the whole word
+pub whole_is : (fits : List ℕ → Bool) (word : List ℕ) (len : ℕ) → fits [] ≡ false → IsLongest fits word len → (nat_lt 0 len && (len == length word)) ≡ fits word
+whole_is fits [] len empty h = let none : len ≡ 0 = (let a = h.within in omega arith) in ap (λ n. nat_lt 0 n && (n == 0)) none ∙ sym empty
+whole_is fits (b ∷ text) len empty h = elim (cases_lt len (length (b ∷ text))) [
+  | inl less ↦
+      (let apart : (len == length (b ∷ text)) ≡ false = unequal len (length (b ∷ text)) (λ e. omega arith) in
+      let unfit : fits (b ∷ text) ≡ false = ap fits (sym (take-length (b ∷ text))) ∙ h.no_longer (length (b ∷ text)) less (omega arith) in
+      grind (arith, common_steps))
+  | inr most ↦
+      (let e : len ≡ length (b ∷ text) = (let a = h.within in omega arith) in
+      let fit : fits (b ∷ text) ≡ true = ap fits (sym (take-length (b ∷ text)) ∙ ap (λ n. take n (b ∷ text)) (sym e)) ∙ h.does_fit (omega arith) in
+      let some : nat_lt 0 len ≡ true = grind arith in
+      let same : (len == length (b ∷ text)) ≡ true = (Decides-eqb len (length (b ∷ text))).1 e in
+      and_from _ _ some same ∙ sym fit)
+]

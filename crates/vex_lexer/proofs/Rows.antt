@@ -1,13 +1,16 @@
 -- A text is a row of pieces in one way at most.
-use Rattle.std.proofs.Common.{◌≡◌, ℕ, zero, suc, ◌+◌, ◌-◌, ◌≤◌, ◌<◌, ◌⊎◌, List, [], ◌∷◌, length, take, drop, refl, ap, sym, subst, ◌∙◌, arith, Bool, true, false, not, ◌||◌, ◌==◌, inl, inr, nat_eq, codes}
+use Rattle.std.proofs.Common.{◌≡◌, ℕ, zero, suc, ◌+◌, ◌-◌, ◌≤◌, ◌<◌, ◌⊎◌, List, [], ◌∷◌, length, take, drop, refl, ap, sym, subst, ◌∙◌, arith, Bool, true, false, not, ◌||◌, ◌==◌, inl, inr, nat_eq, codes, Some}
 use Rattle.std.proofs.lemmas.Bool.{and_parts}
 use Rattle.std.proofs.lemmas.Bool.Decides.{Decides-eqb}
 use Rattle.std.proofs.lemmas.List.{drop_all}
 use Rattle.std.specs.List.{slice_range, starts_with, list_all}
 use Rattle.vex_lexer.specs.declared.token.Token.{Token}
+use Rattle.vex_lexer.specs.declared.token_kind.TokenKind.{TokenKind}
+use Rattle.vex_lexer.specs.TokenKinds.{kind_of}
 use Rattle.vex_lexer.specs.Longest.{IsLongest}
 use Rattle.vex_lexer.specs.Words.{begins, is_line_end, is_token, is_name, is_attribute_name, is_string, is_operator}
-use Rattle.vex_lexer.specs.Gaps.{is_blank, is_comment, is_line_comment, is_block_comment, begins_comment, ends_comment}
+use Rattle.sop_outside.specs.Blanks.{is_blank}
+use Rattle.vex_lexer.specs.Gaps.{is_comment, is_line_comment, is_block_comment, begins_comment, ends_comment}
 use Rattle.vex_lexer.specs.Spelling.{Piece, Between, Word, len_of, IsTokenAt, IsBetween, IsPieceAt, IsRow, tokens_of, Spells, LacksToken, line_of}
 use Rattle.vex_lexer.proofs.Longest.{not_both, one_longest, starts_shorter}
 use Rattle.vex_lexer.proofs.Numbers.{not_number}
@@ -81,13 +84,11 @@ pub between_or_word : (text : List ℕ) (place len : ℕ) (token : Token) → Is
 between_or_word text place len token (inl p) q = (let some = q.some_byte in blank_none (drop place text) (token.end - token.start) p.0 q.longest (omega arith))
 between_or_word text place len token (inr p) q = between_comment (drop place text) len q.no_comment p.0 p.1
 
-fields_same : (t u : Token) → t.text ≡ u.text → t.start ≡ u.start → t.end ≡ u.end → t.line ≡ u.line → t ≡ u
-fields_same t u text start end line =
-    let one : t ≡ record t { text = u.text } = ap (λ x. record t { text = x }) text in
-    let two : record t { text = u.text } ≡ record u { end = t.end; line = t.line } = ap (λ x. record u { start = x; end = t.end; line = t.line }) start in
-    let three : record u { end = t.end; line = t.line } ≡ record u { line = t.line } = ap (λ x. record u { end = x; line = t.line }) end in
-    let four : record u { line = t.line } ≡ u = ap (λ x. record u { line = x }) line in
-    one ∙ two ∙ three ∙ four
+fields_same : (t u : Token) → t.text ≡ u.text → t.start ≡ u.start → t.end ≡ u.end → t.line ≡ u.line → t.kind ≡ u.kind → t ≡ u
+fields_same t u text start end line kind = λ i. record { text = text i; start = start i; end = end i; line = line i; kind = kind i }
+
+some_same : (a b : TokenKind) → Some a ≡ Some b → a ≡ b
+some_same a b e = (cc)
 
 same_token : (text : List ℕ) (place : ℕ) (t u : Token) → IsTokenAt text place t → IsTokenAt text place u → t ≡ u
 same_token text place t u p q =
@@ -97,7 +98,7 @@ same_token text place t u p q =
     let u_some = q.some_byte in
     let end : t.end ≡ u.end = omega arith in
     let slice : t.text ≡ u.text = p.slice ∙ ap (λ n. slice_range text n t.end) start ∙ ap (λ n. slice_range text u.start n) end ∙ sym q.slice in
-    fields_same t u slice start end (p.line ∙ sym q.line)
+    fields_same t u slice start end (p.line ∙ sym q.line) (some_same t.kind u.kind (sym p.kind ∙ ap kind_of slice ∙ q.kind))
 
 pub same_piece : (text : List ℕ) (place : ℕ) (p q : Piece) → IsPieceAt text place p → IsPieceAt text place q → p ≡ q
 same_piece text place (Between a) (Between b) p q = ap Between (same_between (drop place text) a b p q)

@@ -6,7 +6,8 @@ use Rattle.std.proofs.lemmas.Slice.Eq.{starts_is}
 use Rattle.std.proofs.lemmas.Bool.Decides.{Decides-eqb}
 use Rattle.std.specs.List.{list_all, prefix_len, starts_with}
 use Rattle.vex_lexer.specs.Longest.{IsLongest}
-use Rattle.vex_lexer.specs.Words.{begins, is_line_end, is_name, is_name_start, is_name_byte}
+use Rattle.sop_model.specs.Names.{starts_name, continues_name}
+use Rattle.vex_lexer.specs.Words.{begins, is_line_end, is_name}
 use Rattle.vex_lexer.specs.Gaps.{is_line_comment}
 use Rattle.vex_lexer.proofs.Longest.{longest_of, not_both, starts_longer}
 
@@ -41,11 +42,11 @@ take-begins passes text zero some fit = absurd (omega arith)
 take-begins passes [] (suc more) some fit = fit
 take-begins passes (b ∷ text) (suc more) some fit = fit
 
-pub longest_name : (text : List ℕ) → begins is_name_start text ≡ true → IsLongest is_name text (prefix_len is_name_byte text)
+pub longest_name : (text : List ℕ) → begins starts_name text ≡ true → IsLongest is_name text (prefix_len continues_name text)
 longest_name text first =
-    longest_of is_name text (prefix_len is_name_byte text) (prefix_len-le-length is_name_byte text)
-    (λ some. and_from _ _ (take-begins is_name_start text (prefix_len is_name_byte text) some first) (run_passes is_name_byte text))
-    (λ more over inside fit. let most = run_within is_name_byte text more inside (and_parts _ _ fit).1 in omega arith)
+    longest_of is_name text (prefix_len continues_name text) (prefix_len-le-length continues_name text)
+    (λ some. and_from _ _ (take-begins starts_name text (prefix_len continues_name text) some first) (run_passes continues_name text))
+    (λ more over inside fit. let most = run_within continues_name text more inside (and_parts _ _ fit).1 in omega arith)
 
 past_slashes : (text : List ℕ) → 2 ≤ prefix_len (λ b. not (is_line_end b)) (47 ∷ 47 ∷ text)
 past_slashes text = omega arith

@@ -9,7 +9,7 @@ use Rattle.vex_lexer.specs.declared.token.Token.{Token}
 use Rattle.vex_lexer.specs.Longest.{IsLongest}
 use Rattle.vex_lexer.specs.Words.{is_line_end, is_token}
 use Rattle.vex_lexer.specs.Gaps.{is_comment, begins_comment}
-use Rattle.vex_lexer.specs.Spelling.{Piece, Between, Word, len_of, IsTokenAt, IsBetween, IsPieceAt, IsRow, tokens_of, Spells, LacksToken, line_of}
+use Rattle.vex_lexer.specs.Spelling.{Piece, Between, Word, len_of, IsTokenAt, IsCut, IsBetween, IsPieceAt, IsRow, tokens_of, Spells, LacksToken, line_of}
 use Rattle.vex_lexer.specs.declared.opening.Opening.TheVariants.{Nothing}
 use Rattle.vex_lexer.specs.Openings.{IsOpening}
 use Rattle.vex_lexer.proofs.Longest.{not_both, one_longest}
@@ -75,23 +75,24 @@ scanned_between text place line tokens len ends h between e =
     }
 
 token_there : (text : List ℕ) (place line len : ℕ) (token : Token) → line ≡ line_of text place → begins_comment (drop place text) ≡ false → IsLongest is_token (drop place text) len → 0 < len
-    → token ≡ record { text = slice_range text place (place + len); start = place; end = place + len; line = line } → IsTokenAt text place token
-token_there text place line len token at_line apart longest some e =
-    let same : place + len - place ≡ len = omega arith in
-    let made : Token = record { text = slice_range text place (place + len); start = place; end = place + len; line = line } in
-    let there : IsTokenAt text place made = record {
-      begins_here = refl;
+    → IsCut text place (place + len) line token → IsTokenAt text place token
+token_there text place line len token at_line apart longest some cut =
+    let start = cut.start in
+    let end = cut.end in
+    let same : len ≡ token.end - token.start = omega arith in
+    record {
+      begins_here = start;
       some_byte = omega arith;
       no_comment = apart;
-      longest = subst (IsLongest is_token (drop place text)) (sym same) longest;
-      slice = refl;
-      line = at_line;
-    } in
-    subst (IsTokenAt text place) (sym e) there
+      longest = subst (IsLongest is_token (drop place text)) same longest;
+      slice = cut.slice ∙ (λ i. slice_range text (sym start i) (sym end i));
+      line = cut.at_line ∙ at_line;
+      kind = cut.kind;
+    }
 
 pub scanned_word : (text : List ℕ) (place line : ℕ) (tokens : List Token) (len ends : ℕ) (token : Token) → Scanned text place line tokens
     → begins_comment (drop place text) ≡ false → IsLongest is_token (drop place text) len → 0 < len
-    → token ≡ record { text = slice_range text place (place + len); start = place; end = place + len; line = line }
+    → IsCut text place (place + len) line token
     → ends ≡ length (filter is_line_end (take len (drop place text))) → Scanned text (place + len) (line + ends) (tokens ++ token ∷ [])
 scanned_word text place line tokens len ends token h apart longest some made e =
     let size : length (drop place text) ≡ length text - place = length-drop place text in
@@ -99,7 +100,7 @@ scanned_word text place line tokens len ends token h apart longest some made e =
     let in_text = h.inside in
     let soon = h.early in
     let few = few_ends (drop place text) len within in
-    let step : len_of (Word token) ≡ len = ap len_of (ap Word made) ∙ (let s : place + len - place ≡ len = omega arith in s) in record {
+    let step : len_of (Word token) ≡ len = (let start = made.start in let end = made.end in omega arith) in record {
       pieces = h.pieces ++ Word token ∷ [];
       row = subst (λ n. IsRow text 0 (h.pieces ++ Word token ∷ []) (place + n)) step (row_more text h.pieces (Word token) 0 place h.row (token_there text place line len token h.at_line apart longest some made));
       same = tokens-word h.pieces token ∙ ap (λ ts. ts ++ token ∷ []) h.same;

@@ -1,11 +1,7 @@
--- What may stand between tokens: blanks and comments.
+-- Comments, which stand between tokens as blanks do.
 use Rattle.std.specs.Prelude.{ℕ, Bool, false, if◌then◌else◌, ◌&&◌, ◌||◌, not, nat_eq, ◌==◌, List, [], ◌∷◌, length, drop, codes}
 use Rattle.std.specs.List.{list_all, starts_with}
 use Rattle.vex_lexer.specs.Words.{is_line_end}
-
--- space, tab, CR and LF
-abbrev pub is_blank : ℕ → Bool
-is_blank b = (b == 32) || (b == 9) || (b == 13) || (b == 10)
 
 -- A line comment is `//` and bytes of the same line. Only LF ends a line.
 abbrev pub is_line_comment : List ℕ → Bool

@@ -1,6 +1,10 @@
 pub mod Longest
+pub mod Operators
+pub mod Keywords
 pub mod Words
 pub mod Gaps
+pub mod TokenKinds
+pub mod Escapes
 pub mod Spelling
 pub mod Parts
 pub mod Openings

@@ -4,7 +4,8 @@ use Rattle.vex_lexer.specs.declared.opening.Opening.{Opening}
 use Rattle.vex_lexer.specs.declared.opening.Opening.TheVariants.{Between, Word, Nothing}
 use Rattle.vex_lexer.specs.Longest.{IsLongest}
 use Rattle.vex_lexer.specs.Words.{begins, is_token}
-use Rattle.vex_lexer.specs.Gaps.{is_blank, is_comment, begins_comment}
+use Rattle.sop_outside.specs.Blanks.{is_blank}
+use Rattle.vex_lexer.specs.Gaps.{is_comment, begins_comment}
 use Rattle.vex_lexer.specs.Spelling.{IsBetween}
 
 -- Nothing begins where neither a blank, nor a whole comment, nor a token does.

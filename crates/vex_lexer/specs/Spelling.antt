@@ -1,11 +1,13 @@
 -- How a text spells its tokens. A text is a row of pieces without a gap or an overlap: each is a blank, the longest
 -- comment or the longest token that begins at its place. The tokens of the row are what the text spells.
-use Rattle.std.specs.Prelude.{◌≡◌, ℕ, ◌+◌, ◌-◌, ◌<◌, ◌⊎◌, List, [], ◌∷◌, length, take, drop, IsTrue, IsFalse}
+use Rattle.std.specs.Prelude.{◌≡◌, ℕ, ◌+◌, ◌-◌, ◌<◌, ◌⊎◌, List, [], ◌∷◌, length, take, drop, Some, IsTrue, IsFalse}
 use Rattle.std.specs.List.{filter, slice_range}
 use Rattle.vex_lexer.specs.declared.token.Token.{Token}
 use Rattle.vex_lexer.specs.Longest.{IsLongest}
 use Rattle.vex_lexer.specs.Words.{begins, is_line_end, is_token}
-use Rattle.vex_lexer.specs.Gaps.{is_blank, is_comment, begins_comment}
+use Rattle.vex_lexer.specs.TokenKinds.{kind_of}
+use Rattle.sop_outside.specs.Blanks.{is_blank}
+use Rattle.vex_lexer.specs.Gaps.{is_comment, begins_comment}
 
 -- The line of a place of a text, counted from 1.
 abbrev pub line_of : List ℕ → ℕ → ℕ
@@ -28,6 +30,15 @@ pub record IsTokenAt (text : List ℕ) (place : ℕ) (token : Token) : Type 0 wh
   pub longest : IsLongest is_token (drop place text) (token.end - token.start)
   pub slice : token.text ≡ slice_range text token.start token.end
   pub line : token.line ≡ line_of text place
+  pub kind : kind_of token.text ≡ Some token.kind
+
+-- The token of the bytes from one place to another, which stands in this line.
+pub record IsCut (text : List ℕ) (from to line : ℕ) (token : Token) : Type 0 where
+  pub slice : token.text ≡ slice_range text from to
+  pub start : token.start ≡ from
+  pub end : token.end ≡ to
+  pub at_line : token.line ≡ line
+  pub kind : kind_of token.text ≡ Some token.kind
 
 -- So many bytes are one blank, or a comment.
 abbrev pub IsBetween : List ℕ → ℕ → Type 0

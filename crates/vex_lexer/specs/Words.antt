@@ -1,8 +1,9 @@
 -- What a token looks like: numbers, names, attribute names, strings and operators, each a test on a whole text.
 use Rattle.std.specs.Prelude.{ℕ, Bool, true, false, if◌then◌else◌, ◌&&◌, ◌||◌, not, nat_eq, ◌==◌, List, [], ◌∷◌, length, drop, codes, bytes_eq}
 use Rattle.std.specs.List.{list_all, list_any, starts_with}
-use Rattle.std.specs.Char.{is_ascii_alphabetic, is_ascii_alphanumeric}
 use Rattle.sop_fixed.specs.Numerals.{is_sign, is_numeral}
+use Rattle.sop_model.specs.Names.{starts_name, continues_name}
+use Rattle.vex_lexer.specs.Operators.{operators, text_of}
 
 -- whether the first byte of a text passes
 abbrev pub begins : (ℕ → Bool) → List ℕ → Bool
@@ -14,15 +15,9 @@ begins passes (b ∷ text) = passes b
 abbrev pub is_number : List ℕ → Bool
 is_number word = not (begins is_sign word) && is_numeral word
 
-abbrev pub is_name_start : ℕ → Bool
-is_name_start b = is_ascii_alphabetic b || (b == 95)
-
-abbrev pub is_name_byte : ℕ → Bool
-is_name_byte b = is_ascii_alphanumeric b || (b == 95)
-
--- A name is a letter or `_`, then letters, digits or `_`.
+-- A name is a letter or `_`, then letters, digits or `_`, of any length.
 abbrev pub is_name : List ℕ → Bool
-is_name word = begins is_name_start word && list_all is_name_byte word
+is_name word = begins starts_name word && list_all continues_name word
 
 -- What stands before the name of an attribute: `@`, behind a letter of its kind or none, which `[]` may follow.
 abbrev pub marks : List (List ℕ)
@@ -62,16 +57,8 @@ abbrev pub is_string : List ℕ → Bool
 is_string [] = false
 is_string (quote ∷ text) = is_quote quote && is_closed_by quote false text
 
-abbrev pub operators : List (List ℕ)
-operators =
-    codes "+" ∷ codes "-" ∷ codes "*" ∷ codes "/" ∷ codes "%"
-    ∷ codes "==" ∷ codes "!=" ∷ codes "<" ∷ codes "<=" ∷ codes ">" ∷ codes ">="
-    ∷ codes "&&" ∷ codes "||" ∷ codes "!" ∷ codes "?" ∷ codes ":"
-    ∷ codes "=" ∷ codes "+=" ∷ codes "-=" ∷ codes "*=" ∷ codes "/=" ∷ codes "++" ∷ codes "--"
-    ∷ codes "(" ∷ codes ")" ∷ codes "{" ∷ codes "}" ∷ codes "[" ∷ codes "]" ∷ codes ";" ∷ codes "," ∷ codes "." ∷ []
-
 abbrev pub is_operator : List ℕ → Bool
-is_operator word = list_any (λ operator. bytes_eq operator word) operators
+is_operator word = list_any (λ operator. bytes_eq (text_of operator) word) operators
 
 abbrev pub is_token : List ℕ → Bool
 is_token word = is_number word || is_name word || is_attribute_name word || is_string word || is_operator word

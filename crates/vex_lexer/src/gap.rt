@@ -1,17 +1,19 @@
 // Blanks and comments.
 ghost use Rattle.std.specs.Prelude.{◌≡◌, false, not};
 ghost use Rattle.std.specs.List.{prefix_len};
+ghost use Rattle.sop_outside.specs.Blanks.{is_blank};
 ghost use Rattle.vex_lexer.specs.Longest.{IsLongest};
 ghost use Rattle.vex_lexer.specs.Words.{begins, is_line_end};
-ghost use Rattle.vex_lexer.specs.Gaps.{is_blank, is_line_comment, ends_comment, is_block_comment, is_comment, begins_comment};
+ghost use Rattle.vex_lexer.specs.Gaps.{is_line_comment, ends_comment, is_block_comment, is_comment, begins_comment};
 
-use crate::behind::onto;
+use crate::lengths::onto;
+use sop_outside::is_blank;
 
 pub fn begins_blank(rest: &[u8]) -> bool
     ensures { result ≡ begins is_blank rest.now }
 {
     match rest {
-        [b, ..] => matches!(*b, b' ' | b'\t' | b'\r' | b'\n'),
+        [b, ..] => is_blank(*b),
         [] => false,
     }
 }

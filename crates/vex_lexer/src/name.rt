@@ -1,29 +1,36 @@
 // Names, and names of attributes.
 ghost use Rattle.std.specs.Prelude.{◌≡◌};
 ghost use Rattle.std.specs.List.{prefix_len, list_any};
+ghost use Rattle.sop_model.specs.Names.{starts_name, continues_name};
 ghost use Rattle.vex_lexer.specs.Longest.{IsLongest};
-ghost use Rattle.vex_lexer.specs.Words.{begins, is_name_start, is_name_byte, is_name, is_marked_name, is_attribute_name};
+ghost use Rattle.vex_lexer.specs.Words.{begins, is_name, is_marked_name, is_attribute_name};
 
-use crate::behind::onto;
+use crate::lengths::{is_whole, onto};
+use sop_model::{continues_name, starts_name};
 
 /// What stands before the name of an attribute.
 const MARKS: [&str; 9] = ["@", "f@", "i@", "s@", "v@", "f[]@", "i[]@", "s[]@", "v[]@"];
 
 fn begins_name(rest: &[u8]) -> bool
-    ensures { result ≡ begins is_name_start rest.now }
+    ensures { result ≡ begins starts_name rest.now }
 {
     match rest {
-        [b, ..] => b.is_ascii_alphabetic() || *b == b'_',
+        [b, ..] => starts_name(*b),
         [] => false,
     }
 }
 
 fn name_bytes(rest: &[u8]) -> usize
-    ensures { result ≡ prefix_len is_name_byte rest.now }
+    ensures { result ≡ prefix_len continues_name rest.now }
 {
-    rest.iter()
-        .take_while(|b| b.is_ascii_alphanumeric() || **b == b'_')
-        .count()
+    rest.iter().take_while(|b| continues_name(**b)).count()
+}
+
+/// Whether a word is a name.
+pub fn is_name(word: &[u8]) -> bool
+    ensures { result ≡ is_name word.now }
+{
+    is_whole(name_len(word), word)
 }
 
 /// The length of the name that begins here, or 0 where none does.
@@ -45,6 +52,13 @@ fn marked_name_len(mark: &[u8], rest: &[u8]) -> usize
         return 0;
     }
     onto(mark.len(), name_len(&rest[mark.len()..]))
+}
+
+/// Whether a word is an attribute name.
+pub fn is_attribute_name(word: &[u8]) -> bool
+    ensures { result ≡ is_attribute_name word.now }
+{
+    is_whole(attribute_name_len(word), word)
 }
 
 /// The length of the attribute name that begins here, or 0 where none does.

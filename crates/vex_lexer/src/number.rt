@@ -7,7 +7,7 @@ ghost use Rattle.vex_lexer.specs.Longest.{IsLongest};
 ghost use Rattle.vex_lexer.specs.Words.{begins, is_number};
 ghost use Rattle.vex_lexer.specs.Parts.{is_signed_digits, is_exponent, is_loose_number, begins_number, fraction_len};
 
-use crate::behind::onto;
+use crate::lengths::{is_whole, onto};
 
 fn begins_digit(rest: &[u8]) -> bool
     ensures { result ≡ begins is_ascii_digit rest.now }
@@ -97,6 +97,13 @@ fn begins_number(rest: &[u8]) -> bool
     ensures { result ≡ begins_number rest.now }
 {
     begins_digit(rest) || (begins_point(rest) && begins_digit(&rest[1..]))
+}
+
+/// Whether a word is a number.
+pub fn is_number(word: &[u8]) -> bool
+    ensures { result ≡ is_number word.now }
+{
+    is_whole(number_len(word), word)
 }
 
 /// The length of the number that begins here, or 0 where none does.

@@ -24,7 +24,24 @@ fn a_snippet_is_cut_into_tokens(rt: HostRuntime) -> Result<(), Fail> {
     assert_eq!(rt; made[6].line, 2);
     assert_eq!(rt; made[6].start, 27);
     assert_eq!(rt; made[6].end, 28);
+    assert_eq!(rt; made[3].kind, TokenKind::Operator(Operator::Assign));
+    assert_eq!(rt; made[4].kind, TokenKind::Real);
+    assert_eq!(rt; kind_of("while"), Some(TokenKind::Keyword(Keyword::While)));
     one_spelling(snippet.as_bytes());
+    each_word_is_found();
+    Ok(())
+}
+
+#[test]
+fn a_string_has_a_value(rt: HostRuntime) -> Result<(), Fail> {
+    for (word, value) in [
+        ("'a//\u{e9}'", Some("a//\u{e9}")),
+        ("\"\\t\\n\\\\'\"", Some("\t\n\\'")),
+        ("'a\"", None),
+    ] {
+        let made = string_value(rt.alloc(), word)?;
+        assert!(rt; made.as_ref().map(|text| text.as_str()) == value);
+    }
     Ok(())
 }
 

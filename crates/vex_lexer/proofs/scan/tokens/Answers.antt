@@ -1,10 +1,11 @@
 use Rattle.std.proofs.Common.{◌≡◌, ◌∙◌, ◌+◌, ◌++◌, [], ◌∷◌, length, take, drop, ap, sym, subst}
 use Rattle.std.proofs.lemmas.List.{take_rest}
 use Rattle.vex_lexer.specs.declared.opening.Opening.TheVariants.{Nothing, Between, Word}
-use Rattle.std.specs.List.{filter, slice_range}
+use Rattle.std.specs.List.{filter}
 use Rattle.vex_lexer.specs.Words.{is_line_end}
 use Rattle.vex_lexer.specs.declared.token.Token.{Token}
 use Rattle.vex_lexer.specs.Openings.{IsOpening}
+use Rattle.vex_lexer.specs.Spelling.{IsCut}
 use Rattle.vex_lexer.specs.Refusal.{IsRefusal}
 use Rattle.vex_lexer.specs.declared.fault.LexFault.TheVariants.{NoToken}
 use Rattle.vex_lexer.proofs.Scanned.{Scanned, scanned_between, scanned_word, ends_of, refused}
@@ -34,8 +35,7 @@ loop-place-preserved c =
           (let n = w.in-Word.len in
           let token : Token = w.in_ok-token_at-in-Word.field-0 in
           let there : IsOpening (drop place bytes) (Word n) = subst (λ t. IsOpening t (Word n)) (take_rest bytes place) w.in-Word.ensures in
-          let made : token ≡ record { text = slice_range bytes place (place + n); start = place; end = place + n; line = line } =
-          subst (λ t. token ≡ record { text = slice_range t place (place + n); start = place; end = place + n; line = line }) (sym c.as_bytes-bytes.ensures.value) w.in_ok-token_at-in-Word.ensures in
+          let made : IsCut bytes place (place + n) line token = subst (λ t. IsCut t place (place + n) line token) (sym c.as_bytes-bytes.ensures.value) w.in_ok-token_at-in-Word.ensures in
           let counted : c.line_ends.result ≡ length (filter is_line_end (take n (drop place bytes))) = subst (λ k. c.line_ends.result ≡ length (filter is_line_end (take k (drop place bytes)))) w.len-is ends in
           let next = scanned_word bytes place line c.loop-place.tokens.items n c.line_ends.result token c.loop-place.invariant there.1 there.2 there.0 made counted in
           let pushed : c.match-opening_at.tokens.items ≡ c.loop-place.tokens.items ++ token ∷ [] = ap (λ v. v.items) w.tokens-is ∙ w.in_ok-push-in-Word.ensures.items in

@@ -1,0 +1,7 @@
+use Rattle.std.proofs.Common.{◌∙◌, refl}
+use Rattle.vex_lexer.specs.Words.{is_attribute_name}
+use Rattle.vex_lexer.proofs.Longest.{whole_is}
+use Rattle.vex_lexer.proofs.name.is_attribute_name.Goals as goal
+
+pub returns : goal.returns
+returns c = c.is_whole.ensures ∙ whole_is is_attribute_name c.args.word.now c.attribute_name_len.result refl c.attribute_name_len.ensures
