@@ -27,6 +27,7 @@ impl Model for Echoed {
 }
 
 impl Echoed {
+    /// Nothing is echoed yet.
     pub fn new(alloc: Global) -> Echoed
         ensures { result ≡ [] }
     {

@@ -12,6 +12,7 @@ pub enum Start {
     Command,
 }
 
+/// What this byte begins between commands.
 pub fn start_of(b: u8) -> Start
     ensures { result ≡ start_of b }
 {

@@ -32,6 +32,7 @@ impl Style {
     }
 }
 
+/// Whether a byte is a blank of command files: a space, tab or CR.
 pub fn is_script_blank(b: u8) -> bool
     ensures { result ≡ is_script_blank b }
 {
@@ -55,6 +56,7 @@ fn style_of(b: u8) -> Style
     }
 }
 
+/// What this byte begins between words.
 pub fn opening_of(b: u8) -> Opening
     ensures { result ≡ opening_of b }
 {

@@ -16,6 +16,7 @@ pub struct Variables {
 }
 
 impl Variables {
+    /// No variable is set.
     pub fn new(alloc: Global) -> Variables
         ensures { variables_of result ≡ no_variables }
     {
@@ -25,6 +26,7 @@ impl Variables {
         }
     }
 
+    /// The text of a variable.
     pub fn get(&self, name: &str) -> Option<&Text>
         ensures { option_copied result ≡ variables_of self.now name.now }
     {

@@ -11,6 +11,7 @@ pub enum Verb {
     OpRm,
 }
 
+/// The command that this word names.
 pub fn verb_of(word: &str) -> Option<Verb>
     ensures { result ≡ verb_of word.now }
 {

@@ -12,6 +12,7 @@ use Rattle.sop_model.specs.Names.{is_name, are_distinct}
 use Rattle.sop_net.specs.declared.node_type.NodeType.{NodeType}
 use Rattle.sop_net.specs.declared.node.Node.{Node}
 use Rattle.sop_net.specs.NodeTable.{inputs_of}
+use Rattle.sop_net.specs.Limits.{most_nodes}
 use Rattle.sop_net.specs.Network.{node_of, place_named, IsLive, new_node, wired, wires_of, sources, IsNodeOf}
 use Rattle.sop_net.specs.Order.{In, IsOrdered, IsOrder, IsKept}
 use Rattle.sop_net.proofs.DefaultLemmas.{defaults-taken, wired-none}
@@ -105,7 +106,7 @@ keys-added keys new text nodes name key same free is put =
     ap (map text) (put ∙ ap (λ b. cond b keys (keys ++ key ∷ [])) fresh) ∙ map-push text keys key ∙ ap (λ t. map text keys ++ t ∷ []) is
 
 pub kept-added : (nodes : List Node) (names : List (List ℕ)) (order : List ℕ) (added : ℕ) (node_type : NodeType) (name : List ℕ)
-    → IsKept nodes names order added → IsTrue (is_name name) → place_named nodes name ≡ None → length nodes < 1024
+    → IsKept nodes names order added → IsTrue (is_name name) → place_named nodes name ≡ None → length nodes < most_nodes
     → IsKept (nodes ++ new_node added node_type name ∷ []) (names ++ name ∷ []) (order ++ added ∷ []) (added + 1)
 kept-added nodes names order added node_type name kept named free room =
     let n : Node = new_node added node_type name in

@@ -6,6 +6,7 @@ use Rattle.std.proofs.lemmas.List.Elements.{All-weaker}
 use Rattle.sop_model.specs.Names.{is_name}
 use Rattle.sop_net.specs.declared.node_type.NodeType.{NodeType}
 use Rattle.sop_net.specs.declared.node.Node.{Node}
+use Rattle.sop_net.specs.Limits.{most_nodes}
 use Rattle.sop_net.specs.Network.{place_named, IsLive, new_node, sources}
 use Rattle.sop_net.specs.Order.{In, IsOrder, IsRanking, IsRanked, IsKept, with_source}
 use Rattle.sop_net.specs.Steps.{refusal_of_pairs, with_pairs, unwired}
@@ -28,7 +29,7 @@ module _ (nodes : List Node) (names : List (List ℕ)) (order ranks : List ℕ) 
       let k = position_or_len (λ (n : Node). n.number == added) nodes in
       unused nodes k added s.within (λ d. s.numbered d) (λ d h. kept.0.network.below k d h)
 
-  pub both-added : (node_type : NodeType) (name : List ℕ) → IsTrue (is_name name) → place_named nodes name ≡ None → length nodes < 1024
+  pub both-added : (node_type : NodeType) (name : List ℕ) → IsTrue (is_name name) → place_named nodes name ≡ None → length nodes < most_nodes
       → IsKept (nodes ++ new_node added node_type name ∷ []) (names ++ name ∷ []) (order ++ added ∷ []) (added + 1)
       × IsRanked (nodes ++ new_node added node_type name ∷ []) (order ++ added ∷ []) (ranks ++ added ∷ []) (added + 1)
   both-added node_type name named free room =

@@ -8,6 +8,7 @@ use Rattle.std.proofs.lemmas.List.Elements.{All-map, All-weaker, All-take, All-d
 use Rattle.std.proofs.lemmas.List.Quantifiers.{all_pairs_remove}
 use Rattle.sop_model.specs.Names.{are_distinct}
 use Rattle.sop_net.specs.declared.node.Node.{Node}
+use Rattle.sop_net.specs.Limits.{most_nodes}
 use Rattle.sop_net.specs.Network.{node_of, IsLive, IsNodeOf, wired, wires_of, sources}
 use Rattle.sop_net.specs.Order.{In, IsOrdered, IsOrder, IsKept}
 use Rattle.sop_net.specs.Steps.{unless_from, unwired}
@@ -169,7 +170,7 @@ module _ (nodes : List Node) (names : List (List ℕ)) (order : List ℕ) (added
       let v = n.number in
       let net = kept.network in
       let one = length-remove nodes at within in
-      let few : length nodes ≤ 1024 = net.few in
+      let few : length nodes ≤ most_nodes = net.few in
       let same_names : map (λ m. m.name) (map (unwired n.number) (remove nodes at)) ≡ remove (map (λ m. m.name) nodes) at = names-unwired n.number (remove nodes at) ∙ map-remove (λ (m : Node). m.name) nodes at in
       record {
         network = record {

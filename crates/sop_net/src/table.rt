@@ -40,6 +40,20 @@ pub struct TypeRow {
     pub parms: &'static [Parm],
 }
 
+/// A class of elements, with `point` at first.
+const ANY_CLASS: Parm = Parm {
+    name: "class",
+    kind: ParmKind::Choice(&["point", "detail", "prim", "vertex"]),
+    default: "point",
+};
+
+/// A group pattern, which is empty at first.
+const PATTERN: Parm = Parm {
+    name: "group",
+    kind: ParmKind::Text,
+    default: "",
+};
+
 pub static FILE: TypeRow = TypeRow {
     word: "file",
     inputs: 0,
@@ -185,11 +199,7 @@ pub static XFORM: TypeRow = TypeRow {
             kind: ParmKind::Vector,
             default: "1 1 1",
         },
-        Parm {
-            name: "group",
-            kind: ParmKind::Text,
-            default: "",
-        },
+        PATTERN,
     ],
 };
 
@@ -198,11 +208,7 @@ pub static ATTRIB_CREATE: TypeRow = TypeRow {
     inputs: 1,
     is_optional: false,
     parms: &[
-        Parm {
-            name: "class",
-            kind: ParmKind::Choice(&["point", "detail", "prim", "vertex"]),
-            default: "point",
-        },
+        ANY_CLASS,
         Parm {
             name: "name",
             kind: ParmKind::Text,
@@ -218,11 +224,7 @@ pub static ATTRIB_CREATE: TypeRow = TypeRow {
             kind: ParmKind::Text,
             default: "",
         },
-        Parm {
-            name: "group",
-            kind: ParmKind::Text,
-            default: "",
-        },
+        PATTERN,
     ],
 };
 
@@ -231,11 +233,7 @@ pub static ATTRIB_DELETE: TypeRow = TypeRow {
     inputs: 1,
     is_optional: false,
     parms: &[
-        Parm {
-            name: "class",
-            kind: ParmKind::Choice(&["point", "detail", "prim", "vertex"]),
-            default: "point",
-        },
+        ANY_CLASS,
         Parm {
             name: "names",
             kind: ParmKind::Text,
@@ -249,21 +247,13 @@ pub static ENUMERATE: TypeRow = TypeRow {
     inputs: 1,
     is_optional: false,
     parms: &[
-        Parm {
-            name: "class",
-            kind: ParmKind::Choice(&["point", "detail", "prim", "vertex"]),
-            default: "point",
-        },
+        ANY_CLASS,
         Parm {
             name: "name",
             kind: ParmKind::Text,
             default: "index",
         },
-        Parm {
-            name: "group",
-            kind: ParmKind::Text,
-            default: "",
-        },
+        PATTERN,
     ],
 };
 
@@ -284,11 +274,7 @@ pub static BLAST: TypeRow = TypeRow {
             kind: ParmKind::Choice(&["prim", "point", "vertex"]),
             default: "prim",
         },
-        Parm {
-            name: "group",
-            kind: ParmKind::Text,
-            default: "",
-        },
+        PATTERN,
         Parm {
             name: "negate",
             kind: ParmKind::Flag,
@@ -317,11 +303,7 @@ pub static GROUP_CREATE: TypeRow = TypeRow {
             kind: ParmKind::Text,
             default: "",
         },
-        Parm {
-            name: "group",
-            kind: ParmKind::Text,
-            default: "",
-        },
+        PATTERN,
         Parm {
             name: "op",
             kind: ParmKind::Choice(&["replace", "union", "intersect", "subtract"]),
@@ -334,11 +316,7 @@ pub static COPY_TO_POINTS: TypeRow = TypeRow {
     word: "copytopoints",
     inputs: 2,
     is_optional: false,
-    parms: &[Parm {
-        name: "group",
-        kind: ParmKind::Text,
-        default: "",
-    }],
+    parms: &[PATTERN],
 };
 
 pub static SORT: TypeRow = TypeRow {
@@ -387,11 +365,7 @@ pub static REVERSE: TypeRow = TypeRow {
     word: "reverse",
     inputs: 1,
     is_optional: false,
-    parms: &[Parm {
-        name: "group",
-        kind: ParmKind::Text,
-        default: "",
-    }],
+    parms: &[PATTERN],
 };
 
 pub static ATTRIB_WRANGLE: TypeRow = TypeRow {
@@ -404,11 +378,7 @@ pub static ATTRIB_WRANGLE: TypeRow = TypeRow {
             kind: ParmKind::Choice(&["point", "detail", "prim", "vertex", "number"]),
             default: "point",
         },
-        Parm {
-            name: "group",
-            kind: ParmKind::Text,
-            default: "",
-        },
+        PATTERN,
         Parm {
             name: "snippet",
             kind: ParmKind::Snippet,

@@ -59,7 +59,7 @@ fn a_network_is_read(rt: HostRuntime) -> Result<(), Fail> {
     assert!(rt; net.source(s, 1) == Some(f));
     let sockets = net.sockets(s);
     assert!(rt; sockets.first == 1 && sockets.are_needed && sockets.wires == &[Some(f)][..]);
-    let mut files = vec![in rt.alloc(); s; 1024]?;
+    let mut files = vec![in rt.alloc(); s; limits::MOST_NODES]?;
     assert_eq!(rt; net.needs(s, &mut files), 1);
     assert!(rt; files[0] == f);
     net.remove("f")?;
