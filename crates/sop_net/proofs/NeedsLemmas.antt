@@ -1,15 +1,17 @@
 -- The first node of each file name, and the walk upstream.
 use Rattle.std.proofs.Common.{◌≡◌, ap, sym, refl, ◌∙◌, subst, ℕ, zero, suc, List, [], ◌∷◌, ◌++◌, length, arith, Bool, true, false, ◌||◌, if◌then◌else◌, append_assoc}
-use Rattle.std.specs.Prelude.{Option, None, Some, Contains, All, flat_map}
+use Rattle.std.specs.Prelude.{Option, None, Some, Contains, All, flat_map, option_map, is_some}
 use Rattle.std.specs.List.{list_any}
 use Rattle.std.proofs.lemmas.List.{append-nil, length-append}
-use Rattle.std.proofs.lemmas.List.Elements.{All-nil, All-cons, All-head, All-tail}
+use Rattle.std.proofs.lemmas.List.Elements.{All-nil, All-cons, All-head, All-tail, All-push}
 use Rattle.std.proofs.lemmas.List.Folds.{list_any-append}
 use Rattle.std.proofs.lemmas.Slice.Eq.{bytes_eq-Decides}
 use Rattle.sop_net.specs.Graph.{Within}
 use Rattle.sop_net.specs.declared.node.Node.{Node}
-use Rattle.sop_net.specs.Network.{used_sources}
-use Rattle.sop_net.specs.Needs.{walk, file_of, is_file_named, listed, with_file, first_files}
+use Rattle.sop_net.specs.declared.node_type.NodeType.{NodeType}
+use Rattle.sop_net.specs.declared.node_type.NodeType.TheVariants as type
+use Rattle.sop_net.specs.Network.{node_of, used_sources, IsLive}
+use Rattle.sop_net.specs.Needs.{walk, file_of, file_of_node, file_of_type, IsFileNode, is_file_named, listed, with_file, first_files, needed}
 use Rattle.sop_net.specs.Listing.{IsCovered, with_needs}
 use Rattle.sop_net.proofs.UsedLemmas.{first_is, further}
 
@@ -107,3 +109,38 @@ pub with_needs-rule : (nodes : List Node) (so_far : List ℕ) (x : ℕ) → With
     → with_needs nodes so_far x ≡ with_file nodes (first_files nodes so_far (flat_map (walk (length nodes) nodes) (used_sources nodes x))) x
 with_needs-rule nodes so_far x within =
     ap (first_files nodes so_far) (walk-rule nodes x within) ∙ first_files-append nodes so_far (flat_map (walk (length nodes) nodes) (used_sources nodes x)) (x ∷ [])
+
+-- a node that loads a file is a file node, and stands
+file_by_type : (node_type : NodeType) (n : Node) (name : List ℕ) → file_of_type node_type n ≡ Some name → node_type ≡ type.File
+file_by_type type.File n name is = refl
+file_by_type other n name is = let no : ⊥ = cc in absurd no
+
+is_file_node : (nodes : List Node) (x : ℕ) (name : List ℕ) → file_of nodes x ≡ Some name → IsFileNode nodes x
+is_file_node nodes x name is = by (node_of nodes x) refl is
+  where
+    by : (found : Option Node) → node_of nodes x ≡ found → file_of_node found ≡ Some name → IsFileNode nodes x
+    by None here is = let no : ⊥ = cc in absurd no
+    by (Some n) here is = ap (option_map (λ (m : Node). m.node_type)) here ∙ ap Some (file_by_type n.node_type n name is)
+
+pub file_stands : (nodes : List Node) (x : ℕ) → IsFileNode nodes x → IsLive nodes x
+file_stands nodes x file = by (node_of nodes x) refl file
+  where
+    by : (found : Option Node) → node_of nodes x ≡ found → option_map (λ (m : Node). m.node_type) found ≡ Some type.File → IsLive nodes x
+    by None here is = let no : ⊥ = cc in absurd no
+    by (Some n) here is = ap is_some here
+
+-- only file nodes are listed
+listed_files : (nodes : List Node) (so_far : List ℕ) (x : ℕ) (file : Option (List ℕ)) → file_of nodes x ≡ file → All (IsFileNode nodes) so_far → All (IsFileNode nodes) (listed nodes so_far file x)
+listed_files nodes so_far x None is all = all
+listed_files nodes so_far x (Some name) is all = by (list_any (λ y. is_file_named (file_of nodes y) name) so_far)
+  where
+    by : (b : Bool) → All (IsFileNode nodes) (if b then so_far else so_far ++ x ∷ [])
+    by true = all
+    by false = All-push (IsFileNode nodes) so_far x all (is_file_node nodes x name is)
+
+first_are_files : (nodes : List Node) (so_far xs : List ℕ) → All (IsFileNode nodes) so_far → All (IsFileNode nodes) (first_files nodes so_far xs)
+first_are_files nodes so_far [] all = all
+first_are_files nodes so_far (x ∷ xs) all = first_are_files nodes (with_file nodes so_far x) xs (listed_files nodes so_far x (file_of nodes x) refl all)
+
+pub needed_are_files : (nodes : List Node) (x : ℕ) → All (IsFileNode nodes) (needed nodes x)
+needed_are_files nodes x = first_are_files nodes [] (walk (length nodes) nodes x) (All-nil (IsFileNode nodes))

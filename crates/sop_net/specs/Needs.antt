@@ -1,6 +1,6 @@
 -- The files that the cook of a node needs: those of the `file` nodes among it and the nodes upstream of it by used wires, depth first by
 -- rising input number, inputs before the node, each name once.
-use Rattle.std.specs.Prelude.{ℕ, zero, suc, Bool, false, if◌then◌else◌, List, [], ◌∷◌, ◌++◌, length, flat_map, Option, None, Some, bytes_eq}
+use Rattle.std.specs.Prelude.{◌≡◌, ℕ, zero, suc, Bool, false, if◌then◌else◌, List, [], ◌∷◌, ◌++◌, length, flat_map, Option, None, Some, option_map, bytes_eq}
 use Rattle.std.specs.List.{list_any}
 use Rattle.sop_net.specs.declared.node_type.NodeType.{NodeType}
 use Rattle.sop_net.specs.declared.node_type.NodeType.TheVariants as type
@@ -23,6 +23,10 @@ file_of_node (Some n) = file_of_type n.node_type n
 
 abbrev pub file_of : List Node → ℕ → Option (List ℕ)
 file_of nodes x = file_of_node (node_of nodes x)
+
+-- a `file` node of this number stands
+abbrev pub IsFileNode : List Node → ℕ → Type 0
+IsFileNode nodes x = option_map (λ n. n.node_type) (node_of nodes x) ≡ Some type.File
 
 abbrev pub is_file_named : Option (List ℕ) → List ℕ → Bool
 is_file_named None name = false

@@ -5,7 +5,7 @@ ghost use Rattle.std.specs.Option.{option_copied};
 ghost use Rattle.sop_net.specs.Limits.{most_nodes};
 ghost use Rattle.sop_net.specs.Graph.{Within};
 ghost use Rattle.sop_net.specs.Network.{IsLive, used_sources};
-ghost use Rattle.sop_net.specs.Needs.{file_of, is_file_named, needed, with_file};
+ghost use Rattle.sop_net.specs.Needs.{file_of, IsFileNode, is_file_named, needed, with_file};
 ghost use Rattle.sop_net.specs.Listing.{IsListing, IsWritten, with_needs};
 
 use crate::limits::MOST_NODES;
@@ -19,6 +19,7 @@ pub(crate) fn needs_of(net: &Net, node: NodeId, into: &mut [NodeId]) -> usize
     requires room { most_nodes ≤ length into.old }
     ensures count { result ≡ length (needed net.now.nodes node) }
     ensures few { result ≤ most_nodes }
+    ensures files { All (IsFileNode net.now.nodes) (needed net.now.nodes node) }
     ensures written { into.new ≡ needed net.now.nodes node ++ drop result into.old }
 {
     net.is_network();

@@ -1,5 +1,5 @@
 // The network and its steps.
-ghost use Rattle.std.specs.Prelude.{◌≡◌, ◌≢◌, ◌<◌, ◌≤◌, ◌⊎◌, ◌%◌, ◌↔◌, true, ◌∷◌, [], ◌+◌, ◌++◌, length, drop, IsTrue, vec_len, vec_capacity, IfOk, IfErr, IfSome, OnOk, OnErr, Ok, Err, Some, option_map, slice_get, map, ℕ, Contains};
+ghost use Rattle.std.specs.Prelude.{◌≡◌, ◌≢◌, ◌<◌, ◌≤◌, ◌⊎◌, ◌%◌, ◌↔◌, true, ◌∷◌, [], ◌+◌, ◌++◌, length, drop, IsTrue, vec_len, vec_capacity, IfOk, IfErr, IfSome, OnOk, OnErr, Ok, Err, Some, option_map, slice_get, map, ℕ, All, Contains};
 ghost use Rattle.sop_net.specs.Network.{empty_network, node_of, number_named, place_of, place_named, IsLive, IsNetwork, IsNodeOf, AreValues, wire_at, wires_of, sources, used_sources, used_wires, switch_input};
 ghost use Rattle.sop_net.specs.declared.node_type.NodeType.{NodeType};
 ghost use Rattle.sop_net.specs.Limits.{most_nodes, most_added, most_inputs};
@@ -7,7 +7,7 @@ ghost use Rattle.sop_net.specs.NodeTable.{parms_of};
 ghost use Rattle.sop_net.specs.Graph.{Within, Reaches, searched};
 ghost use Rattle.sop_net.specs.Steps.{added_node, with_node, set_node, wired_node, removed_node, unwired};
 ghost use Rattle.sop_model.specs.Names.{is_name};
-ghost use Rattle.sop_net.specs.Needs.{needed, file_of};
+ghost use Rattle.sop_net.specs.Needs.{needed, file_of, IsFileNode};
 ghost use Rattle.sop_net.specs.Sockets.{sockets_from, sockets_of};
 
 use crate::input::input_below;
@@ -275,10 +275,9 @@ impl Net {
         self.at(node).sockets()
     }
 
-    /// The name of the file that a node loads. The node stands and is a `file` node.
+    /// The name of the file that a `file` node that stands loads.
     pub fn file_name(&self, node: NodeId) -> &str
-        requires live { IsLive self.now.nodes node }
-        requires file { option_map (λ n. n.node_type) (node_of self.now.nodes node) ≡ Some NodeType.File }
+        requires { IsFileNode self.now.nodes node }
         ensures { file_of self.now.nodes node ≡ Some result.now }
     {
         self.at(node).file_name()
@@ -315,6 +314,7 @@ impl Net {
         requires room { most_nodes ≤ length into.old }
         ensures count { result ≡ length (needed self.now.nodes node) }
         ensures few { result ≤ most_nodes }
+        ensures files { All (IsFileNode self.now.nodes) (needed self.now.nodes node) }
         ensures written { into.new ≡ needed self.now.nodes node ++ drop result into.old }
     {
         needs_of(self, node, into)
