@@ -11,11 +11,11 @@ mod square_root;
 pub mod vec3;
 pub mod whole;
 
-pub use digits::{are_digits, read_digits, read_number};
+pub use digits::{MOST_DIGITS, are_digits, read_digits, read_number};
 pub use fault::{NumFault, NumeralFault};
 pub use int::{Int, LARGEST_INT, SMALLEST_INT};
 pub use numeral::{print, read_numeral};
-pub use real::{LARGEST_SIZE, Real, UNIT};
+pub use real::{LARGEST_SIZE, Real, UNIT, limits_are_as_defined};
 pub use vec3::Vec3;
 pub use whole::read_whole;
 

@@ -3,11 +3,11 @@ ghost use Rattle.std.specs.Prelude.{◌≡◌, ◌≤◌, ◌<◌, ◌≤ℤ◌,
 ghost use Rattle.std.specs.Int.{int_max, int_min};
 ghost use Rattle.sop_fixed.specs.Arithmetic.{IsFloor, IsNearest, difference_of, fit_of, floor_of, product_of, put_between, quotient_of, remainder_of, rounded, sum_of, unit, units_of};
 ghost use Rattle.sop_fixed.specs.Roots.{IsRootOf, sqrt_of, square};
-ghost use Rattle.sop_fixed.specs.Numbers.{signed, is_negative, nearest, real_of, largest_size, unit_size};
+ghost use Rattle.sop_fixed.specs.Numbers.{signed, is_negative, nearest, real_of, largest_size, unit_size, smallest_int, largest_int};
 ghost use Rattle.sop_fixed.specs.declared.sizes.TheConstants.{LARGEST_DIFFERENCE, LARGEST_SQUARE};
 
 use crate::fault::NumFault;
-use crate::int::Int;
+use crate::int::{Int, LARGEST_INT, SMALLEST_INT};
 use crate::sizes::{nearest, product};
 use crate::square_root::root;
 use std::marker::Model;
@@ -227,4 +227,12 @@ impl Real {
 pub fn rounding_keeps_order()
     ensures sizes { (n m d : ℕ) → 0 < d → n ≤ m → nearest n d ≤ nearest m d }
     ensures signed { (a b : ℤ) (d : ℕ) → 0 < d → a ≤ℤ b → rounded a (pos d) ≤ℤ rounded b (pos d) }
+{}
+
+/// A law: the limits of numbers are those that the definitions say.
+pub fn limits_are_as_defined()
+    ensures size { LARGEST_SIZE ≡ largest_size }
+    ensures unit { UNIT ≡ pos unit_size }
+    ensures smallest { SMALLEST_INT ≡ smallest_int }
+    ensures largest { LARGEST_INT ≡ largest_int }
 {}

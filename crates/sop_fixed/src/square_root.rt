@@ -15,7 +15,8 @@ pub(crate) fn root(n: u128) -> u128
 }
 
 /// A number near the root of n, at least 1: how near it is decides how long the root takes, and no answer. Its first half
-/// of the bits is right, so that `above_root` of it is at most 3 above the root.
+/// of the bits is right, so that `above_root` of it is at most 3 above the root. A front of nothing but ones would give 33
+/// bits, of which the first must not be lost.
 fn guess(n: u128) -> u64
     requires { 0 < n }
     ensures { 0 < result }
@@ -24,7 +25,7 @@ fn guess(n: u128) -> u64
     let front = ((n << (2 * half)) >> 64) as u64;
     let start = (1 << 31) + (front >> 33);
     let near = closer(front, closer(front, closer(front, start)));
-    ((near << 32) >> half).max(1)
+    ((near.min(u64::from(u32::MAX)) << 32) >> half).max(1)
 }
 
 /// Newton's step: the middle between x and n / x, at least 1.

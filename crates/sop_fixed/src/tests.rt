@@ -42,6 +42,13 @@ fn reals_are_reckoned(rt: HostRuntime) -> Result<(), Fail> {
     assert_eq!(rt; x.to_int().get(), 7);
     assert_eq!(rt; real(&rt, 0).fit(y, x, x, y).millionths(), 5_500_000);
     assert!(rt; Vec3 { x, y, z: y }.length() == Ok(real(&rt, 8_015_609)));
+    // The first 64 bits of the sum of squares are all ones.
+    let ones = Vec3 {
+        x: real(&rt, 562_949_953_421_311),
+        y: real(&rt, 33_554_431),
+        z: real(&rt, 0),
+    };
+    assert!(rt; ones.length() == Ok(real(&rt, 562_949_953_421_311)));
     let end = real(&rt, LARGEST_SIZE.cast_signed());
     assert!(rt; end.sqrt() == Ok(real(&rt, 31_622_776_601)));
     assert!(rt;

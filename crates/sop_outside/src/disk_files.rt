@@ -28,6 +28,7 @@ impl<'a, R: rt::Files> Model for DiskFiles<'a, R> {
 }
 
 impl<'a, R: rt::Files> DiskFiles<'a, R> {
+    /// The files of the system, with all counts at 0.
     pub fn new(system: &'a R) -> DiskFiles<'a, R>
         ensures faults { result.faults ≡ 0 }
         ensures misses { result.misses ≡ 0 }

@@ -83,8 +83,9 @@ impl<T> Items<T> {
         self.inner.append(&mut more.inner)
     }
 
-    /// Makes room for `more` items behind those that are there, so that they are appended without taking memory. The
-    /// items stay as they are, also on `Err`, want of memory.
+    /// Makes room for `more` items behind those that are there, so that appending them needn't move the list. The items
+    /// stay as they are, also on `Err`, want of memory. No contract sees the room: what must not fail later goes into a
+    /// `Vec` with room, and `from_vec`.
     pub fn reserve(&mut self, more: usize) -> Result<(), AllocError>
         ensures { self.new ≡ self.old }
     {

@@ -21,6 +21,7 @@ impl<P: Print> Model for StdSink<P> {
 }
 
 impl<P: Print> StdSink<P> {
+    /// A sink that writes to `stream`, of which no write has failed.
     pub fn new(stream: P) -> StdSink<P>
         ensures faults { result ≡ 0 }
     {

@@ -284,7 +284,8 @@ impl PageStore {
         let _pages = &self.pages;
     }
 
-    fn is_held_once(&self, id: PageId) -> bool
+    /// Whether one place alone holds a page, so that it can be taken out. It takes no memory.
+    pub fn is_held_once(&self, id: PageId) -> bool
         requires { IsLive self.now id }
         ensures { result ≡ (count self.now id == 1) }
     {
