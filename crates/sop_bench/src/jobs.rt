@@ -1,5 +1,5 @@
 // Jobs of equal weight for the workers.
-use sop_fan::{Job, Stop, gather};
+use sop_fan::{Job, MOST_WORKERS, Stop, gather};
 use sop_outside::OpenGate;
 use std::alloc::Global;
 use std::thread::Threads;
@@ -10,12 +10,17 @@ const JOBS: u32 = 1000;
 /// How often a job mixes its bits.
 const ROUNDS: u32 = 300_000;
 
-/// The most workers.
-const MOST_WORKERS: u32 = 64;
-
 /// The sum of all results, the same for each number of workers; none where memory runs out.
 pub fn sum_of_jobs<R: Threads + Sync>(rt: &R, alloc: Global, workers: u32) -> Option<u64> {
-    let outs = gather(rt, alloc, workers.clamp(1, MOST_WORKERS), JOBS, &OpenGate, &Mixing).ok()?;
+    let outs = gather(
+        rt,
+        alloc,
+        workers.clamp(1, MOST_WORKERS),
+        JOBS,
+        &OpenGate,
+        &Mixing,
+    )
+    .ok()?;
     Some(outs.iter().fold(0u64, |sum, out| sum.wrapping_add(*out)))
 }
 
@@ -29,6 +34,8 @@ impl Job for Mixing {
     type Fault = u32;
 
     ghost use Rattle.std.specs.Prelude.{None};
+
+    ghost ready = { λ job k. Unit {0} };
 
     ghost fault = { λ job k. None };
 
