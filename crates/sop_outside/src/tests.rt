@@ -1,3 +1,4 @@
+// Each public call once, and the contact with real files and streams.
 use crate::{
     DiskFiles, Failed, Files, Gate, Items, LoadEnd, MemFiles, MemSink, OpenGate, StdSink, Text,
     TextList, put, words_of,
@@ -6,31 +7,47 @@ use std::collections::HashSet;
 use std::fs;
 use std::test::Fail;
 
+fn text(rt: &HostRuntime, text: &str) -> Result<Text, Fail> {
+    Ok(Text::from_string(String::from_str(rt.alloc(), text)?))
+}
+
 #[test]
-fn lists_are_changed_and_compared(rt: HostRuntime) -> Result<(), Fail> {
-    let mut names = TextList::with_capacity(rt.alloc(), 2)?;
+fn items_are_changed_in_place(rt: HostRuntime) -> Result<(), Fail> {
+    let mut names = TextList::new(rt.alloc());
     assert!(rt; names.is_empty());
-    names.add(Text::from_str(rt.alloc(), "first")?)?;
-    names.reserve(1)?;
-    let last = Text::from_string(String::from_str(rt.alloc(), "last")?);
-    assert!(rt; names.push(last).is_ok());
-    assert_eq!(rt; names.len(), 2);
-    let old = names.replace(0, Text::from_str(rt.alloc(), "last")?);
+    names.add(text(&rt, "first")?)?;
+    let old = names.replace(0, text(&rt, "last")?);
     assert_eq!(rt; old.into_string().as_str(), "first");
-    assert!(rt; *names.get(0) == *names.get(1));
-    names.set(1, Text::from_str(rt.alloc(), "other")?);
-    let last = names.pop().expect(&rt, "there are two");
-    assert_eq!(rt; last.as_str(), "other");
-    let names = Items::from_vec(names.into_vec());
-    assert_eq!(rt; names.as_slice().len(), 1);
+    names.set(0, text(&rt, "other")?);
+    assert_eq!(rt; names.get(0).as_str(), "other");
+    Ok(())
+}
+
+#[test]
+fn items_are_moved(rt: HostRuntime) -> Result<(), Fail> {
+    let mut some = Items::with_capacity(rt.alloc(), 2)?;
+    some.reserve(1)?;
+    assert!(rt; some.push(7_u8).is_ok());
+    let mut all = Items::from_vec(some.into_vec());
+    let mut more = Items::new(rt.alloc());
+    more.add(8)?;
+    all.append(&mut more)?;
+    assert_eq!(rt; (all.len(), more.len()), (2, 0));
+    assert_eq!(rt; all.as_slice(), [7, 8].as_slice());
+    assert_eq!(rt; all.pop(), Some(8));
+    Ok(())
+}
+
+#[test]
+fn lists_are_keys(rt: HostRuntime) -> Result<(), Fail> {
+    let mut names = TextList::new(rt.alloc());
+    names.add(Text::from_str(rt.alloc(), "same")?)?;
+    let mut same = TextList::new(rt.alloc());
+    same.add(text(&rt, "same")?)?;
+    assert!(rt; names == same);
     let mut lists = HashSet::new(rt.alloc());
     assert!(rt; lists.insert(names)?);
-    let mut same = TextList::new(rt.alloc());
-    same.add(Text::from_str(rt.alloc(), "last")?)?;
     assert!(rt; lists.contains(&same));
-    let mut all = TextList::new(rt.alloc());
-    all.append(&mut same)?;
-    assert_eq!(rt; (all.len(), same.len()), (1, 0));
     OpenGate.enter(7);
     Ok(())
 }
