@@ -3,10 +3,9 @@
 
     calls.py [--tests FILE]
 
-The test that is run makes each call of the store. Where a call fails, it looks whether pages and cells are as they
-were, and makes the call again; at its end it gives up the places one by one, so that a wrong count shows. For N from 1
-on it is run with its Nth request failing alone, and must end well; then with the Nth and all later ones failing, and
-must end with the store's error for want of memory; until there is no Nth. A failed look or a crash is a failure.
+The test that is run makes each call of the store. For N from 1 on it is run with its Nth request failing alone, and
+then with the Nth and all later ones failing, and must end with the store's error for want of memory each time, until
+there is no Nth. A failed look or a crash is a failure. What a failed call leaves is proved by its clauses.
 FILE is the program that `rt test` makes of a crate's tests; without it, `rt test` is run in crates/sop_pages first.
 A C compiler is needed. This is no part of the gate. The last line is 'N passed, M failed'.
 """
@@ -19,7 +18,7 @@ import tempfile
 import run
 
 CRATE = f"{run.TOP}/crates/sop_pages"
-TEST = "tests::want_of_memory_leaves_the_store"
+TEST = "tests::a_shared_page_is_copied_once"
 WELL = 0, b"\ntest result: ok\n", b""
 WANTING = 101, b"", b"error: AllocError\nthe test failed: its result gives status 1\n"
 MOST = 1000
@@ -54,7 +53,7 @@ def main():
     with tempfile.TemporaryDirectory() as folder:
         shim = run.make_shim(folder)
         *answer, _ = run.cook(words, shim, "0")
-        alone = fail_in_turn(words, shim, "", WELL)
+        alone = fail_in_turn(words, shim, "", WANTING)
         on = fail_in_turn(words, shim, "+", WANTING)
     print(f"{len(alone)} requests failed alone, and {len(on)} with all later ones")
     ended = [is_wanted(answer, WELL, "no request"), *alone, *on]
