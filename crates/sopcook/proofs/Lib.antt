@@ -1,4 +1,5 @@
-pub mod DeliveryLemmas
 pub mod LoadsLemmas
 pub mod RequestLemmas
-pub mod CauseLemmas
+pub mod Prefixes
+pub mod EndingLemmas
+pub mod PromiseLemmas

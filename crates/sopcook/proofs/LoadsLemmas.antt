@@ -1,6 +1,6 @@
 -- The loads of a cook: what is added, what is needed, and that the cook over them is the one over the files that were told.
 use Rattle.std.proofs.Common.{◌≡◌, Bool, true, false, cond, ℕ, zero, suc, ◌≤◌, List, [], ◌∷◌, ◌++◌, length, take, ◌⊎◌, inl, inr, refl, sym, ◌∙◌, ap, subst, arith, append_assoc}
-use Rattle.std.specs.Prelude.{All, Contains, Option, None, Some, IsTrue, IfSome, is_some, unwrap_or, option_map, slice_get}
+use Rattle.std.specs.Prelude.{All, Contains, Option, None, Some, IsTrue, IfSome, is_some, unwrap_or, option_map}
 use Rattle.std.specs.List.{list_any, flat_map}
 use Rattle.std.specs.Cmp.Lexicographic.{slice_cmp, nat_list_cmp_total}
 use Rattle.std.specs.FinMap.{get, insert, get-insert, empty, get-empty}
@@ -15,17 +15,17 @@ use Rattle.sop_outside.specs.Load.{Names}
 use Rattle.sop_net.specs.declared.node_type.NodeType.{NodeType}
 use Rattle.sop_net.specs.declared.node_type.NodeType.TheVariants as type
 use Rattle.sop_net.specs.declared.node.Node.{Node}
-use Rattle.sop_net.specs.Network.{node_of, used_sources, parm_at, IsLive}
+use Rattle.sop_net.specs.Graph.{Steps, Reaches, Within}
+use Rattle.sop_net.specs.Network.{node_of, used_sources, IsLive}
 use Rattle.sop_net.specs.Needs.{walk, file_of, file_of_node, file_of_type, is_file_named, listed, with_file, first_files, needed}
-use Rattle.sop_net.proofs.ReadLemmas.{first_parm, read_node}
 use Rattle.sop_cook.specs.declared.loaded.LoadedFile.{LoadedFile}
 use Rattle.sop_cook.specs.declared.loaded.LoadedFile.TheVariants.{Missing}
 use Rattle.sop_cook.specs.Loads.{Loads, FileMap, file_in}
-use Rattle.sop_cook.specs.SerialCook.{cooked, cook_of}
-use Rattle.sop_cook.proofs.SerialCookLemmas.{same_visit}
+use Rattle.sop_cook.specs.SerialCook.{cook_of}
+use Rattle.sop_cook.specs.Laws.{AreAlike, IsMissing}
 use Rattle.sopcook.specs.declared.answer.Answer.{Answer}
 use Rattle.sopcook.specs.Answer.{cook_answer}
-use Rattle.sopcook.specs.Loads.{Has, HasFilesOf, HoldsLoads, Keeps, IsFileNode, told_files}
+use Rattle.sopcook.specs.Loads.{Has, HasFilesOf, HasMissing, HoldsLoads, Keeps, IsFileNode, MissesBy, told_files}
 
 -- what a load that is added changes
 has_added : (found : Bool) (old : Option LoadedFile) (file : LoadedFile) → IsTrue (is_some old) → IsTrue (is_some (cond found (Some file) old))
@@ -136,19 +136,32 @@ first_are_files nodes so_far (x ∷ xs) all = first_are_files nodes (with_file n
 pub needed_files : (nodes : List Node) (x : ℕ) → All (IsFileNode nodes) (needed nodes x)
 needed_files nodes x = first_are_files nodes [] (walk (length nodes) nodes x) (All-nil (IsFileNode nodes))
 
--- two cooks over files that are the same on the walk
-same_cooked : (f g : FileMap) (nodes : List Node) (depth x : ℕ) → ((y : ℕ) (name : List ℕ) → Contains (walk depth nodes x) y → file_of nodes y ≡ Some name → f name ≡ g name) → cooked depth f nodes x ≡ cooked depth g nodes x
-same_cooked f g nodes zero x same = refl
-same_cooked f g nodes (suc depth) x same =
-    same_visit (cooked depth f nodes) (cooked depth g nodes) f g x (node_of nodes x)
-    (λ n found node_type. same x (parm_at n.parms 0) (Contains-append_right (flat_map (walk depth nodes) (used_sources nodes x)) (x ∷ []) x (contains_first x [])) (ap file_of_node found ∙ ap (λ k. file_of_type k n) node_type))
-    (λ source used. same_cooked f g nodes depth source (λ y name here is.
-    same y name (Contains-append_left (flat_map (walk depth nodes) (used_sources nodes x)) (x ∷ []) y (contains_flat (walk depth nodes) (used_sources nodes x) source y used here)) is))
+-- what is reached by used wires stands on the walk
+walk_steps : (nodes : List Node) (k depth x y : ℕ) → Within (used_sources nodes) depth x → Steps (used_sources nodes) k x y → Contains (walk depth nodes x) y
+walk_steps nodes k zero x y within s = absurd within
+walk_steps nodes zero (suc depth) x y within s =
+    subst (λ z. Contains (walk (suc depth) nodes x) z) s (Contains-append_right (flat_map (walk depth nodes) (used_sources nodes x)) (x ∷ []) x (contains_first x []))
+walk_steps nodes (suc k) (suc depth) x y within (m, (used, s)) =
+    Contains-append_left (flat_map (walk depth nodes) (used_sources nodes x)) (x ∷ []) y
+    (contains_flat (walk depth nodes) (used_sources nodes x) m y used (walk_steps nodes k depth m y (within m used) s))
 
--- the cook over the loads is the one over the files that were told
-pub same_cook : (names : Names) (nodes : List Node) (x : ℕ) (loads : Loads) → HasFilesOf nodes (needed nodes x) loads → HoldsLoads names loads → cook_of (file_in loads) nodes x ≡ cook_of (told_files names) nodes x
-same_cook names nodes x loads has holds =
-    same_cooked (file_in loads) (told_files names) nodes (length nodes) x (λ y name here is. holds name (walk_loads nodes x loads has y name here is))
+-- the loads of what is needed are those of all that is reached by used wires
+reached_load : (nodes : List Node) (x y : ℕ) (name : List ℕ) (loads : Loads) → Within (used_sources nodes) (length nodes) x → HasFilesOf nodes (needed nodes x) loads
+    → Reaches (used_sources nodes) x y → file_of nodes y ≡ Some name → Has loads name
+reached_load nodes x y name loads within has (k, s) is = walk_loads nodes x loads has y name (walk_steps nodes k (length nodes) x y within s) is
+
+-- the loads agree with the files that were told
+pub loads_alike : (names : Names) (nodes : List Node) (x : ℕ) (loads : Loads) → Within (used_sources nodes) (length nodes) x → HasFilesOf nodes (needed nodes x) loads → HoldsLoads names loads
+    → AreAlike (file_in loads) (told_files names) nodes x
+loads_alike names nodes x loads within has holds y name reached is = holds name (reached_load nodes x y name loads within has reached is)
+
+-- a missing file among the loads
+found_missing : (r : Option LoadedFile) → IsTrue (is_some r) → unwrap_or r Missing ≡ Missing → r ≡ Some Missing
+found_missing None has is = let no : ⊥ = cc in absurd no
+found_missing (Some file) has is = ap Some is
+
+pub missing_load : (nodes : List Node) (x y : ℕ) (loads : Loads) → Within (used_sources nodes) (length nodes) x → HasFilesOf nodes (needed nodes x) loads → IsMissing (file_in loads) nodes x y → HasMissing loads
+missing_load nodes x y loads within has m = (m.name, found_missing (get loads m.name) (reached_load nodes x y m.name loads within has m.reached m.file) m.missing)
 
 -- a file node stands, and it has a text
 pub file_live : (nodes : List Node) (x : ℕ) → IsFileNode nodes x → IsLive nodes x
@@ -165,11 +178,12 @@ file_kind n other is h = let no : ⊥ = cc in absurd no
 pub file_is_file : (nodes : List Node) (x : ℕ) (n : Node) → IsFileNode nodes x → node_of nodes x ≡ Some n → n.node_type ≡ type.File
 file_is_file nodes x n h found = file_kind n n.node_type refl (subst (λ f. IsTrue (is_some (file_of_node f))) found h)
 
-pub file_told : (nodes : List Node) (x : ℕ) (texts : List (List ℕ)) (text : List ℕ) → IsFileNode nodes x → option_map (λ n. n.parms) (node_of nodes x) ≡ Some texts → slice_get texts 0 ≡ Some text
-    → file_of nodes x ≡ Some text
-file_told nodes x texts text file parms first =
-    let r = read_node nodes x (λ n. n.parms) texts parms in
-    ap file_of_node r.found ∙ ap (λ k. file_of_type k r.node) (file_is_file nodes x r.node file r.found) ∙ ap (λ ts. Some (parm_at ts 0)) r.is ∙ ap Some (sym (first_parm texts text first))
+pub file_type : (nodes : List Node) (x : ℕ) → IsFileNode nodes x → option_map (λ n. n.node_type) (node_of nodes x) ≡ Some type.File
+file_type nodes x h = by (node_of nodes x) refl
+  where
+    by : (found : Option Node) → node_of nodes x ≡ found → option_map (λ n. n.node_type) found ≡ Some type.File
+    by None is = let no : IsTrue (is_some (file_of_node None)) = subst (λ f. IsTrue (is_some (file_of_node f))) is h in absurd (false≢true no)
+    by (Some n) is = ap Some (file_is_file nodes x n h is)
 
 pub told_added : (told : Option Names) (old new : Loads) (name : List ℕ) (file : LoadedFile) → new ≡ insert old name file → IfSome told (λ names. file ≡ told_files names name) → IfSome told (λ names. HoldsLoads names old → HoldsLoads names new)
 told_added None old new name file is told = told
@@ -207,7 +221,24 @@ taken_front n m xs ys front rest zs is written count le =
     ∙ ap (take (length xs)) (append_assoc xs ys rest) ∙ take_front xs (ys ++ rest)
 
 -- the answer over the loads is the one over the files that were told
-pub told_answer : (told : Option Names) (nodes : List Node) (x : ℕ) (loads : Loads) (answer : Answer) → HasFilesOf nodes (needed nodes x) loads → IfSome told (λ names. HoldsLoads names loads)
+pub told_answer : (told : Option Names) (nodes : List Node) (x : ℕ) (loads : Loads) (answer : Answer) → Within (used_sources nodes) (length nodes) x
+    → ((files others : FileMap) (x : ℕ) → AreAlike files others nodes x → cook_of files nodes x ≡ cook_of others nodes x) → HasFilesOf nodes (needed nodes x) loads → IfSome told (λ names. HoldsLoads names loads)
     → answer ≡ cook_answer nodes (cook_of (file_in loads) nodes x) → IfSome told (λ names. answer ≡ cook_answer nodes (cook_of (told_files names) nodes x))
-told_answer None nodes x loads answer has holds is = tt
-told_answer (Some names) nodes x loads answer has holds is = is ∙ ap (cook_answer nodes) (same_cook names nodes x loads has holds)
+told_answer None nodes x loads answer within alike has holds is = tt
+told_answer (Some names) nodes x loads answer within alike has holds is = is ∙ ap (cook_answer nodes) (alike (file_in loads) (told_files names) x (loads_alike names nodes x loads within has holds))
+
+missing_in : {R : Type 0} (found : Bool) (before : Option LoadedFile) (file : LoadedFile) → cond found (Some file) before ≡ Some Missing → (file ≡ Missing → R) → (before ≡ Some Missing → R) → R
+missing_in {R} true before file h here there = let same : file ≡ Missing = cc in here same
+missing_in {R} false before file h here there = there h
+
+-- a load that is added
+pub missing_added : (old new : Loads) (name : List ℕ) (file : LoadedFile) (missed : Type 0) → new ≡ insert old name file → (file ≡ Missing → missed) → MissesBy old new missed
+missing_added old new name file missed is cause has =
+    missing_in (eq_by_cmp (slice_cmp nat_cmp) has.0 name) (get old has.0) file
+    (sym (get-insert nat_list_cmp_total old name file has.0) ∙ ap (λ loads. get loads has.0) (sym is) ∙ has.1)
+    (λ e. inr (cause e)) (λ e. inl (has.0, e))
+
+pub none_missing : (loads : Loads) → loads ≡ empty → HasMissing loads → ⊥
+none_missing loads is has =
+    let no : None ≡ Some Missing = sym (get-empty (slice_cmp nat_cmp) has.0) ∙ ap (λ l. get l has.0) (sym is) ∙ has.1 in
+    let bad : ⊥ = cc in bad

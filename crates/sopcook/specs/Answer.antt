@@ -1,13 +1,20 @@
 -- What the program answers to its words, where no load and no write fails: a status, the bytes on `out` and those on `err`.
 --
--- The words are read, then the script. Its echoed text comes first on `err`. The node is looked up and cooked. A geometry is written as OBJ on
--- `out`, with status 0. Refusals are a line on `err`: of words status 2; of a script that is missing, too long or refused, and of a node that
--- isn't there, status 3; of a fault of the cook status 4, with the fault's node.
+-- 1. The words are read.
+-- 2. The script is loaded, with a limit of 4 MiB.
+-- 3. The script is read. Its echoed text goes to `err`.
+-- 4. The node is looked up.
+-- 5. The files of the file nodes among the node and those upstream of it are loaded, each with a limit of 64 MiB.
+-- 6. The node is cooked.
+-- 7. The answer's bytes go to `out`: the geometry as OBJ, with status 0.
+--
+-- Where a step refuses, the run ends with its line on `err`: the words with status 2; a script that is missing, too long or refused, and a
+-- node that isn't there, with status 3; a fault of the cook, with the name of its node, with status 4.
 use Rattle.std.specs.Prelude.{ℕ, List, [], ◌∷◌, ◌++◌, codes, decimal, Option, None, Some, Result, Ok, Err, unwrap_or, option_map}
 use Rattle.sop_outside.specs.Load.{Names, load_of}
 use Rattle.sop_outside.specs.declared.files.LoadEnd.{LoadEnd}
 use Rattle.sop_outside.specs.declared.files.LoadEnd.TheVariants as end
-use Rattle.sop_model.specs.Faults.{fault_text}
+use Rattle.sop_model.specs.Faults.{fault_text, line_feed}
 use Rattle.geo_text.specs.ObjWriting.{obj_text}
 use Rattle.sop_net.specs.declared.node.Node.{Node}
 use Rattle.sop_net.specs.Network.{node_of, number_named}
@@ -15,16 +22,16 @@ use Rattle.hscript_text.specs.declared.refusal.ScriptKind.{ScriptKind}
 use Rattle.hscript_text.specs.declared.script.Script.{Script}
 use Rattle.hscript_text.specs.RefusalNames.{name_of_refusal}
 use Rattle.hscript_text.specs.Script.{script_of}
-use Rattle.sop_cook.specs.SerialCook.{Outcome, Failure, cook_of}
+use Rattle.sop_cook.specs.Visit.{Outcome, Failure}
+use Rattle.sop_cook.specs.SerialCook.{cook_of}
 use Rattle.sopcook.specs.declared.answer.Answer.{Answer}
-use Rattle.sopcook.specs.declared.opening.Opening.{Opening}
-use Rattle.sopcook.specs.declared.opening.Opening.TheVariants.{Refused, Cooking}
+use Rattle.sopcook.specs.Limits.{most_script_bytes}
 use Rattle.sopcook.specs.Request.{Asked, request_of}
-use Rattle.sopcook.specs.Loads.{script_limit, told_files}
+use Rattle.sopcook.specs.Loads.{told_files}
 
 -- a line behind the program's name
 abbrev pub said : List ℕ → List ℕ
-said text = codes "sopcook: " ++ text ++ 10 ∷ []
+said text = codes "sopcook: " ++ text ++ line_feed ∷ []
 
 abbrev pub refused_with : ℕ → List ℕ → Answer
 refused_with status text = record { status = status; out = []; err = said text }
@@ -51,51 +58,60 @@ name_at nodes x = unwrap_or (option_map (λ n. n.name) (node_of nodes x)) []
 abbrev pub fault_answer : List Node → Failure → Answer
 fault_answer nodes f = refused_with 4 (name_at nodes f.node ++ codes ": " ++ fault_text f.fault)
 
+-- the node was cooked
 abbrev pub cook_answer : List Node → Outcome → Answer
 cook_answer nodes (Ok g) = record { status = 0; out = obj_text g; err = [] }
 cook_answer nodes (Err f) = fault_answer nodes f
 
+-- the node was looked up
 abbrev pub found_answer : Names → List Node → Option ℕ → Answer
 found_answer names nodes None = no_node
 found_answer names nodes (Some x) = cook_answer nodes (cook_of (told_files names) nodes x)
 
--- the answer of a node, behind what the script echoed
+-- the answer of the node of a name
 abbrev pub node_answer : Names → List Node → List ℕ → Answer
 node_answer names nodes node = found_answer names nodes (number_named nodes node)
-
--- what a run begins with: a refusal, or a script and the name of the node to cook
-abbrev pub script_opening : List ℕ → Result Script (ℕ × ScriptKind) → Opening
-script_opening node (Ok script) = Cooking script node
-script_opening node (Err refusal) = Refused (line_answer refusal.0 refusal.1)
-
-abbrev pub loaded_opening : List ℕ → Result (List ℕ) LoadEnd → Opening
-loaded_opening node (Ok bytes) = script_opening node (script_of bytes)
-loaded_opening node (Err end.TooLong) = Refused script_too_long
-loaded_opening node (Err other) = Refused no_script
-
-abbrev pub asked_opening : Names → Option Asked → Opening
-asked_opening names None = Refused words_answer
-asked_opening names (Some request) = loaded_opening request.node (load_of names request.script script_limit)
-
-abbrev pub opening_of : List (List ℕ) → Names → Opening
-opening_of words names = asked_opening names (request_of words)
 
 -- an answer behind the echoed text
 abbrev pub echoing : List ℕ → Answer → Answer
 echoing echoed answer = record answer { err = echoed ++ answer.err }
 
-abbrev pub opened_answer : Names → Opening → Answer
-opened_answer names (Refused answer) = answer
-opened_answer names (Cooking script node) = echoing script.echoed (node_answer names script.net.nodes node)
+-- the script was read
+abbrev pub script_answer : Names → List ℕ → Result Script (ℕ × ScriptKind) → Answer
+script_answer names node (Ok script) = echoing script.echoed (node_answer names script.net.nodes node)
+script_answer names node (Err refusal) = line_answer refusal.0 refusal.1
+
+-- the script was loaded
+abbrev pub loaded_answer : Names → List ℕ → Result (List ℕ) LoadEnd → Answer
+loaded_answer names node (Ok bytes) = script_answer names node (script_of bytes)
+loaded_answer names node (Err end.TooLong) = script_too_long
+loaded_answer names node (Err other) = no_script
+
+-- the words were read
+abbrev pub asked_answer : Names → Option Asked → Answer
+asked_answer names None = words_answer
+asked_answer names (Some request) = loaded_answer names request.node (load_of names request.script most_script_bytes)
 
 -- the answer to these words
 abbrev pub answer_of : List (List ℕ) → Names → Answer
-answer_of words names = opened_answer names (opening_of words names)
+answer_of words names = asked_answer names (request_of words)
 
--- the text that the script echoes, if it is read
-abbrev pub echo_in : Opening → List ℕ
-echo_in (Refused answer) = []
-echo_in (Cooking script node) = script.echoed
+-- the text that a script echoes, where it is loaded and read
+abbrev pub script_echo : Result Script (ℕ × ScriptKind) → List ℕ
+script_echo (Ok script) = script.echoed
+script_echo (Err refusal) = []
+
+abbrev pub loaded_echo : Result (List ℕ) LoadEnd → List ℕ
+loaded_echo (Ok bytes) = script_echo (script_of bytes)
+loaded_echo (Err end) = []
+
+abbrev pub asked_echo : Names → Option Asked → List ℕ
+asked_echo names None = []
+asked_echo names (Some request) = loaded_echo (load_of names request.script most_script_bytes)
+
+-- the text that the script of these words echoes
+abbrev pub echo_of : List (List ℕ) → Names → List ℕ
+echo_of words names = asked_echo names (request_of words)
 
 -- the line after a load that failed
 abbrev pub read_line : List ℕ

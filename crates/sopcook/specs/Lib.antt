@@ -1,4 +1,6 @@
+pub mod Limits
 pub mod Request
 pub mod Loads
 pub mod Answer
-pub mod Delivery
+pub mod Promise
+pub mod Endings

@@ -9,13 +9,7 @@ use Rattle.sop_cook.specs.declared.loaded.LoadedFile.TheVariants as load
 use Rattle.sop_cook.specs.Loads.{FileMap, Loads, file_in}
 use Rattle.sop_net.specs.declared.node.Node.{Node}
 use Rattle.sop_net.specs.Needs.{file_of}
-
--- the greatest sizes of a script and of a file
-abbrev pub script_limit : ℕ
-script_limit = 4194304
-
-abbrev pub file_limit : ℕ
-file_limit = 67108864
+use Rattle.sopcook.specs.Limits.{most_file_bytes}
 
 -- the load of a file that gives this
 abbrev pub load_from : Result (List ℕ) LoadEnd → LoadedFile
@@ -25,7 +19,7 @@ load_from (Err other) = load.Missing
 
 -- what the load of each name gives
 abbrev pub told_files : Names → FileMap
-told_files names name = load_from (load_of names name file_limit)
+told_files names name = load_from (load_of names name most_file_bytes)
 
 -- a load of this name is there
 abbrev pub Has : Loads → List ℕ → Type 0

@@ -3,8 +3,9 @@
 -- They are read as `clap` reads one command: `sopcook SCRIPT NODE [-j N] [--form FORM]`, two required positionals and two options that take one
 -- text each. It has no version, and a request for help is refused as an unknown word is. N is one or two digits with a value from 1 to 64, and
 -- FORM is `obj`.
-use Rattle.std.specs.Prelude.{ℕ, ◌+◌, ◌-◌, ◌*◌, Bool, true, false, ◌&&◌, nat_le, List, [], ◌∷◌, Option, None, Some, codes, bytes_eq}
-use Rattle.std.specs.Char.{is_ascii_digit}
+use Rattle.std.specs.Prelude.{ℕ, Bool, true, false, ◌&&◌, nat_le, List, [], ◌∷◌, Option, None, Some, codes, bytes_eq}
+use Rattle.sop_fixed.specs.Numerals.{number_in}
+use Rattle.sopcook.specs.Limits.{most_workers, most_worker_digits}
 use Rattle.sopcook.specs.declared.request.Request.{Request}
 use Rattle.clap.specs.Words.{App, Rule, Kinds, new_app, new_rule, with_rule, matches_of, first_of, fault_of}
 
@@ -46,12 +47,13 @@ are_taken (kind ∷ kinds) = false
 abbrev pub given_for : List ℕ → List (List ℕ) → Option (List ℕ)
 given_for id words = first_of id (matches_of sopcook_app words)
 
+abbrev pub is_between : ℕ → ℕ → Option ℕ → Bool
+is_between low high None = false
+is_between low high (Some n) = nat_le low n && nat_le n high
+
 -- one or two digits with a value from 1 to 64
 abbrev pub is_workers : List ℕ → Bool
-is_workers [] = false
-is_workers (a ∷ []) = is_ascii_digit a && nat_le 49 a
-is_workers (a ∷ b ∷ []) = is_ascii_digit a && is_ascii_digit b && nat_le 1 ((a - 48) * 10 + (b - 48)) && nat_le ((a - 48) * 10 + (b - 48)) 64
-is_workers (a ∷ b ∷ c ∷ text) = false
+is_workers text = is_between 1 most_workers (number_in most_worker_digits text)
 
 abbrev pub is_form : List ℕ → Bool
 is_form text = bytes_eq text (codes "obj")

@@ -1,10 +1,11 @@
-// What the program answers.
-ghost use Rattle.std.specs.Prelude.{◌≡◌, [], IfOk};
+//! What the program answers.
+ghost use Rattle.std.specs.Prelude.{◌≡◌, [], IfOk, IsTrue};
+ghost use Rattle.sop_model.specs.Faults.{has_named_node};
 ghost use Rattle.sop_model.specs.Geometry.{IsReadable, HasOnlyPosition};
 ghost use Rattle.sop_net.specs.Network.{IsLive};
-ghost use Rattle.sop_cook.specs.SerialCook.{failed};
+ghost use Rattle.sop_cook.specs.Visit.{failed};
 ghost use Rattle.geo_text.specs.ObjWriting.{obj_text};
-ghost use Rattle.sopcook.specs.Answer.{refused_with, words_answer, no_script, script_too_long, line_answer, no_node, fault_answer};
+ghost use Rattle.sopcook.specs.Answer.{refused_with, no_script, script_too_long, line_answer, no_node, fault_answer};
 
 use geo_text::write_obj;
 use hscript_text::ScriptKind;
@@ -23,6 +24,8 @@ pub struct Answer {
 }
 
 impl Answer {
+    ghost use Rattle.sopcook.specs.Endings.{IsFaultAnswer};
+
     /// A refusal: a line behind the program's name.
     fn refused(alloc: Global, status: u8, text: &[u8]) -> Result<Answer, AllocError>
         ensures { IfOk result (λ answer. answer ≡ refused_with status text.now) }
@@ -35,13 +38,6 @@ impl Answer {
             out: ByteList::new(alloc),
             err: ByteList::from_vec(err),
         })
-    }
-
-    /// The words are refused.
-    pub fn of_words(alloc: Global) -> Result<Answer, AllocError>
-        ensures { IfOk result (λ answer. answer ≡ words_answer) }
-    {
-        Answer::refused(alloc, 2, b"words")
     }
 
     /// The script is missing.
@@ -84,8 +80,10 @@ impl Answer {
         fault: &Fault,
     ) -> Result<Answer, AllocError>
         requires { IsLive net.now.nodes node }
-        ensures { IfOk result (λ answer. answer ≡ fault_answer net.now.nodes (failed node fault.now)) }
+        ensures answer { IfOk result (λ answer. answer ≡ fault_answer net.now.nodes (failed node fault.now)) }
+        ensures line { IsTrue (has_named_node fault.now) → IfOk result (IsFaultAnswer fault.now) }
     {
+        net.is_network();
         let mut text = Vec::from_slice(alloc, net.name(node).as_bytes())?;
         text.extend_from_slice(b": ")?;
         fault.print(&mut text)?;

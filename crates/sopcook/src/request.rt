@@ -1,10 +1,12 @@
-// The words of the command line.
+//! The words of the command line.
 ghost use Rattle.std.specs.Prelude.{◌≡◌, ◌&&◌, Err, IfOk, None, Some, codes, false, map, option_map, string_bytes, true};
 ghost use Rattle.clap.specs.Words.{app_of, fault_of, first_value, found_of, kind_of, matches_of, rows_of};
 ghost use Rattle.sopcook.specs.Request.{are_taken, asked, is_form, is_workers, passes, request_of, request_seen, sopcook_app};
 
+use crate::limits::{MOST_WORKER_DIGITS, MOST_WORKERS};
 use clap::error::ErrorKind;
 use clap::{Arg, ArgMatches, Command, Error};
+use sop_fixed::read_number;
 use std::alloc::{AllocError, Global};
 
 /// What the words ask for.
@@ -46,13 +48,9 @@ fn command<'a>(alloc: Global) -> Result<Command<'a>, AllocError>
 fn is_workers(text: &[u8]) -> bool
     ensures { result ≡ is_workers text.now }
 {
-    match text {
-        [a] => (b'1'..=b'9').contains(a),
-        [a, b] if a.is_ascii_digit() && b.is_ascii_digit() => {
-            let workers = (*a - b'0') * 10 + (*b - b'0');
-            1 <= workers && workers <= 64
-        }
-        _ => false,
+    match read_number(text, MOST_WORKER_DIGITS) {
+        Some(workers) => 1 <= workers && workers <= MOST_WORKERS,
+        None => false,
     }
 }
 

@@ -1,4 +1,4 @@
-// Why a run ends without an answer.
+//! Why a run ends without an answer.
 ghost use Rattle.std.specs.Prelude.{◌≡◌};
 
 use std::alloc::AllocError;

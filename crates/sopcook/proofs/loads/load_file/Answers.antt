@@ -1,8 +1,7 @@
-use Rattle.sopcook.proofs.LoadsLemmas.{keeps_added, has_it, told_added}
+use Rattle.sopcook.proofs.LoadsLemmas.{keeps_added, has_it, missing_added, told_added}
 use Rattle.std.proofs.Common.{◌∙◌, ap}
 use Rattle.std.specs.Prelude.{Ok}
 use Rattle.sop_outside.specs.Causes.{Rose}
-use Rattle.sopcook.proofs.CauseLemmas.{missing_added}
 use Rattle.sopcook.proofs.loads.load_file.Goals as goal
 
 pub returns-clause-loads : goal.returns-clause-loads

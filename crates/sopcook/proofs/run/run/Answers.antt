@@ -1,24 +1,25 @@
-use Rattle.std.proofs.Common.{◌≡◌, map, subst}
+use Rattle.std.proofs.Common.{map, rules, subst}
 use Rattle.std.specs.Prelude.{string_bytes, IfSome}
-use Rattle.sopcook.specs.Answer.{opening_of}
-use Rattle.sopcook.proofs.DeliveryLemmas.{stopped_short}
-use Rattle.std.proofs.Common.{arith}
 use Rattle.sop_outside.specs.Causes.{Rose}
-use Rattle.sopcook.specs.Delivery.{IsOpening}
-use Rattle.sopcook.proofs.CauseLemmas.{refusal_said}
+use Rattle.sop_outside.specs.Load.{load_of}
+use Rattle.sopcook.specs.Limits.{most_script_bytes}
+use Rattle.sopcook.specs.Request.{request_seen}
+use Rattle.sopcook.specs.Endings.{IsOpening, IsCaused}
+use Rattle.sopcook.proofs.PromiseLemmas.{script_promise, refused_promise}
 use Rattle.sopcook.proofs.run.run.Goals as goal
 
-pub returns-in-Ok-Cooking-clause-memory : goal.returns-in-Ok-Cooking-clause-memory
-returns-in-Ok-Cooking-clause-memory g c = λ seven.
-    let short = c.echo_and_finish.ensures.memory seven in
-    record {
-      out = short.0;
-      err = stopped_short (g.F.Files.told c.args.files.now) (map string_bytes c.args.words.now) c.in-Ok-Cooking.script c.in-Ok-Cooking.node (g.E.Sink.told c.args.err.now) (g.E.Sink.told c.echo_and_finish.new.err) (subst (λ opening. IfSome (g.F.Files.told c.args.files.now) (λ names. opening ≡ opening_of (map string_bytes c.args.words.now) names)) c.in-Ok-Cooking.field-0-is c.in-Ok-Cooking.ensures.ok) short.1;
-    }
+pub returns-in-Ok-Read : goal.returns-in-Ok-Read
+returns-in-Ok-Read g c =
+    let told = g.F.Files.told c.args.files.now in
+    script_promise (map string_bytes c.args.words.now) (request_seen c.in-Ok.request) c.in-Ok.ensures.ok c.in-Ok-Read.script c.answer_script.result _ _ _
+    (subst (λ opening. IfSome told (λ names. IsOpening (load_of names c.in-Ok.request.script.now most_script_bytes) opening)) c.in-Ok-Read.field-0-is c.in-Ok-Read.ensures.opening)
+    c.open_script.ensures.told c.open_script.ensures.faults.later c.open_script.ensures.misses_later c.open_script.ensures.overs_later c.answer_script.ensures
 
-pub returns-in-Ok-Refused-clause-refusal : goal.returns-in-Ok-Refused-clause-refusal
-returns-in-Ok-Refused-clause-refusal g c = λ three.
-    refusal_said (map string_bytes c.args.words.now) (Rose (g.F.Files.misses c.args.files.now) (g.F.Files.misses c.open.new.files)) (Rose (g.F.Files.overs c.args.files.now) (g.F.Files.overs c.open.new.files))
-    c.in-Ok-Refused.answer c.deliver.result _ _
-    (subst (IsOpening (map string_bytes c.args.words.now) (Rose (g.F.Files.misses c.args.files.now) (g.F.Files.misses c.open.new.files)) (Rose (g.F.Files.overs c.args.files.now) (g.F.Files.overs c.open.new.files)))
-    c.in-Ok-Refused.field-0-is c.in-Ok-Refused.ensures.answer) three (c.deliver.ensures.written (omega (arith, three)))
+pub returns-in-Ok-Refused : goal.returns-in-Ok-Refused
+returns-in-Ok-Refused g c =
+    let told = g.F.Files.told c.args.files.now in
+    let missed = Rose (g.F.Files.misses c.args.files.now) (g.F.Files.misses c.open_script.new.files) in
+    let over = Rose (g.F.Files.overs c.args.files.now) (g.F.Files.overs c.open_script.new.files) in
+    refused_promise (map string_bytes c.args.words.now) (request_seen c.in-Ok.request) c.in-Ok.ensures.ok c.in-Ok-Refused.answer c.deliver.result _ _
+    (subst (λ opening. IfSome told (λ names. IsOpening (load_of names c.in-Ok.request.script.now most_script_bytes) opening)) c.in-Ok-Refused.field-0-is c.in-Ok-Refused.ensures.opening)
+    (subst (IsCaused missed over) c.in-Ok-Refused.field-0-is c.in-Ok-Refused.ensures.caused) c.deliver.ensures (search rules)
