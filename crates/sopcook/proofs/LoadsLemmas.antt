@@ -1,23 +1,21 @@
 -- The loads of a cook: what is added, what is needed, and that the cook over them is the one over the files that were told.
 use Rattle.std.proofs.Common.{◌≡◌, Bool, true, false, cond, ℕ, zero, suc, ◌≤◌, List, [], ◌∷◌, ◌++◌, length, take, ◌⊎◌, inl, inr, refl, sym, ◌∙◌, ap, subst, arith, append_assoc}
-use Rattle.std.specs.Prelude.{All, Contains, Option, None, Some, IsTrue, IfSome, is_some, unwrap_or, option_map}
+use Rattle.std.specs.Prelude.{Contains, Option, None, Some, IsTrue, IfSome, is_some, unwrap_or}
 use Rattle.std.specs.List.{list_any, flat_map}
 use Rattle.std.specs.Cmp.Lexicographic.{slice_cmp, nat_list_cmp_total}
 use Rattle.std.specs.FinMap.{get, insert, get-insert, empty, get-empty}
 use Rattle.std.specs.Ordering.{nat_cmp, eq_by_cmp}
 use Rattle.std.proofs.lemmas.Map.Text.{is_eq-slice_cmp}
-use Rattle.std.proofs.lemmas.List.Elements.{All-nil, All-cons, All-append, Contains-append_left, Contains-append_right, Contains-push_cases}
+use Rattle.std.proofs.lemmas.List.Elements.{Contains-append_left, Contains-append_right, Contains-push_cases}
 use Rattle.std.proofs.lemmas.Grind.{common_steps}
 use Rattle.std.proofs.lemmas.Bool.{false≢true}
 use Rattle.std.proofs.lemmas.List.Folds.{Any-from_list_any}
 use Rattle.std.proofs.lemmas.Slice.Eq.{bytes_eq-Decides}
 use Rattle.sop_outside.specs.Load.{Names}
-use Rattle.sop_net.specs.declared.node_type.NodeType.{NodeType}
-use Rattle.sop_net.specs.declared.node_type.NodeType.TheVariants as type
 use Rattle.sop_net.specs.declared.node.Node.{Node}
 use Rattle.sop_net.specs.Graph.{Steps, Reaches, Within}
-use Rattle.sop_net.specs.Network.{node_of, used_sources, IsLive}
-use Rattle.sop_net.specs.Needs.{walk, file_of, file_of_node, file_of_type, is_file_named, listed, with_file, first_files, needed}
+use Rattle.sop_net.specs.Network.{used_sources}
+use Rattle.sop_net.specs.Needs.{walk, file_of, is_file_named, listed, with_file, first_files, needed}
 use Rattle.sop_cook.specs.declared.loaded.LoadedFile.{LoadedFile}
 use Rattle.sop_cook.specs.declared.loaded.LoadedFile.TheVariants.{Missing}
 use Rattle.sop_cook.specs.Loads.{Loads, FileMap, file_in}
@@ -25,7 +23,7 @@ use Rattle.sop_cook.specs.SerialCook.{cook_of}
 use Rattle.sop_cook.specs.Laws.{AreAlike, IsMissing}
 use Rattle.sopcook.specs.declared.answer.Answer.{Answer}
 use Rattle.sopcook.specs.Answer.{cook_answer}
-use Rattle.sopcook.specs.Loads.{Has, HasFilesOf, HasMissing, HoldsLoads, Keeps, IsFileNode, MissesBy, told_files}
+use Rattle.sopcook.specs.Loads.{Has, HasFilesOf, HasMissing, HoldsLoads, Keeps, MissesBy, told_files}
 
 -- what a load that is added changes
 has_added : (found : Bool) (old : Option LoadedFile) (file : LoadedFile) → IsTrue (is_some old) → IsTrue (is_some (cond found (Some file) old))
@@ -120,22 +118,6 @@ pub walk_loads : (nodes : List Node) (x : ℕ) (loads : Loads) → HasFilesOf no
 walk_loads nodes x loads has y name here is =
     let z = covers nodes [] (walk (length nodes) nodes x) y name here is in has z.node name z.here z.file
 
--- what is needed are file nodes
-listed_files : (nodes : List Node) (so_far : List ℕ) (x : ℕ) (file : Option (List ℕ)) → file_of nodes x ≡ file → All (IsFileNode nodes) so_far → All (IsFileNode nodes) (listed nodes so_far file x)
-listed_files nodes so_far x None is all = all
-listed_files nodes so_far x (Some name) is all = by (list_any (λ z. is_file_named (file_of nodes z) name) so_far)
-  where
-    by : (b : Bool) → All (IsFileNode nodes) (cond b so_far (so_far ++ x ∷ []))
-    by true = all
-    by false = All-append (IsFileNode nodes) so_far (x ∷ []) all (All-cons (IsFileNode nodes) x [] (ap is_some is) (All-nil (IsFileNode nodes)))
-
-first_are_files : (nodes : List Node) (so_far xs : List ℕ) → All (IsFileNode nodes) so_far → All (IsFileNode nodes) (first_files nodes so_far xs)
-first_are_files nodes so_far [] all = all
-first_are_files nodes so_far (x ∷ xs) all = first_are_files nodes (with_file nodes so_far x) xs (listed_files nodes so_far x (file_of nodes x) refl all)
-
-pub needed_files : (nodes : List Node) (x : ℕ) → All (IsFileNode nodes) (needed nodes x)
-needed_files nodes x = first_are_files nodes [] (walk (length nodes) nodes x) (All-nil (IsFileNode nodes))
-
 -- what is reached by used wires stands on the walk
 walk_steps : (nodes : List Node) (k depth x y : ℕ) → Within (used_sources nodes) depth x → Steps (used_sources nodes) k x y → Contains (walk depth nodes x) y
 walk_steps nodes k zero x y within s = absurd within
@@ -162,28 +144,6 @@ found_missing (Some file) has is = ap Some is
 
 pub missing_load : (nodes : List Node) (x y : ℕ) (loads : Loads) → Within (used_sources nodes) (length nodes) x → HasFilesOf nodes (needed nodes x) loads → IsMissing (file_in loads) nodes x y → HasMissing loads
 missing_load nodes x y loads within has m = (m.name, found_missing (get loads m.name) (reached_load nodes x y m.name loads within has m.reached m.file) m.missing)
-
--- a file node stands, and it has a text
-pub file_live : (nodes : List Node) (x : ℕ) → IsFileNode nodes x → IsLive nodes x
-file_live nodes x h = by (node_of nodes x) h
-  where
-    by : (found : Option Node) → IsTrue (is_some (file_of_node found)) → IsTrue (is_some found)
-    by None e = e
-    by (Some n) e = refl
-
-file_kind : (n : Node) (node_type : NodeType) → n.node_type ≡ node_type → IsTrue (is_some (file_of_type node_type n)) → n.node_type ≡ type.File
-file_kind n type.File is h = is
-file_kind n other is h = let no : ⊥ = cc in absurd no
-
-pub file_is_file : (nodes : List Node) (x : ℕ) (n : Node) → IsFileNode nodes x → node_of nodes x ≡ Some n → n.node_type ≡ type.File
-file_is_file nodes x n h found = file_kind n n.node_type refl (subst (λ f. IsTrue (is_some (file_of_node f))) found h)
-
-pub file_type : (nodes : List Node) (x : ℕ) → IsFileNode nodes x → option_map (λ n. n.node_type) (node_of nodes x) ≡ Some type.File
-file_type nodes x h = by (node_of nodes x) refl
-  where
-    by : (found : Option Node) → node_of nodes x ≡ found → option_map (λ n. n.node_type) found ≡ Some type.File
-    by None is = let no : IsTrue (is_some (file_of_node None)) = subst (λ f. IsTrue (is_some (file_of_node f))) is h in absurd (false≢true no)
-    by (Some n) is = ap Some (file_is_file nodes x n h is)
 
 pub told_added : (told : Option Names) (old new : Loads) (name : List ℕ) (file : LoadedFile) → new ≡ insert old name file → IfSome told (λ names. file ≡ told_files names name) → IfSome told (λ names. HoldsLoads names old → HoldsLoads names new)
 told_added None old new name file is told = told

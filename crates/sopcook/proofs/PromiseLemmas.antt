@@ -4,11 +4,11 @@ use Rattle.std.specs.Prelude.{Option, None, Some, IfSome}
 use Rattle.sop_outside.specs.Causes.{Rose}
 use Rattle.sop_outside.specs.Load.{Names, load_of}
 use Rattle.sop_outside.specs.Told.{appended, AppendsPrefix}
-use Rattle.hscript_text.specs.declared.kind.ScriptKind.{ScriptKind}
+use Rattle.hscript_text.specs.declared.refusal.ScriptKind.{ScriptKind}
 use Rattle.hscript_text.specs.declared.script.Script.{Script}
 use Rattle.sopcook.specs.declared.answer.Answer.{Answer}
 use Rattle.sopcook.specs.declared.script.Opening.TheVariants.{Read, Refused}
-use Rattle.sopcook.specs.Limits.{most_script_bytes}
+use Rattle.hscript_text.specs.Limits.{most_script_bytes}
 use Rattle.sopcook.specs.Request.{Asked, request_of}
 use Rattle.sopcook.specs.Answer.{no_script, script_too_long, line_answer, no_node, echoing, node_answer, script_answer, loaded_answer, asked_answer, answer_of, script_echo, loaded_echo, asked_echo, echo_of}
 use Rattle.sopcook.specs.Promise.{FilesSeen, Outside, Delivers, DeliversPrefix, IsEcho, GoesOn, Promise}
@@ -147,7 +147,7 @@ module _ (words : List (List ℕ)) (request : Asked) (asked : request_of words �
 
       says : (answer : Answer) (before now : Outside) (missed over : Type 0) → IsCaused missed over (Refused answer) → now.err.told ≡ appended before.err.told answer.err
           → ((now.err.told ≡ appended before.err.told no_script.err) × missed) ⊎ ((now.err.told ≡ appended before.err.told script_too_long.err) × over)
-          ⊎ ((line : ℕ) × (kind : ScriptKind) × (now.err.told ≡ appended before.err.told (line_answer line kind).err)) ⊎ ((echo : List ℕ) × (now.err.told ≡ appended before.err.told (echo ++ no_node.err)))
+          ⊎ ((line : ℕ) × (refusal : ScriptKind) × (now.err.told ≡ appended before.err.told (line_answer line refusal).err)) ⊎ ((echo : List ℕ) × (now.err.told ≡ appended before.err.told (echo ++ no_node.err)))
       says answer before now missed over (inl c) told = inl (told ∙ ap (λ (a : Answer). appended before.err.told a.err) c.0, c.1)
       says answer before now missed over (inr (inl c)) told = inr (inl (told ∙ ap (λ (a : Answer). appended before.err.told a.err) c.0, c.1))
       says answer before now missed over (inr (inr c)) told = inr (inr (inl (c.0, c.1, told ∙ ap (λ (a : Answer). appended before.err.told a.err) c.2)))

@@ -20,12 +20,12 @@ use Rattle.sop_net.specs.declared.node.Node.{Node}
 use Rattle.sop_net.specs.Network.{node_of, number_named}
 use Rattle.hscript_text.specs.declared.refusal.ScriptKind.{ScriptKind}
 use Rattle.hscript_text.specs.declared.script.Script.{Script}
+use Rattle.hscript_text.specs.Limits.{most_script_bytes}
 use Rattle.hscript_text.specs.RefusalNames.{name_of_refusal}
 use Rattle.hscript_text.specs.Script.{script_of}
 use Rattle.sop_cook.specs.Visit.{Outcome, Failure}
 use Rattle.sop_cook.specs.SerialCook.{cook_of}
 use Rattle.sopcook.specs.declared.answer.Answer.{Answer}
-use Rattle.sopcook.specs.Limits.{most_script_bytes}
 use Rattle.sopcook.specs.Request.{Asked, request_of}
 use Rattle.sopcook.specs.Loads.{told_files}
 
@@ -46,7 +46,7 @@ abbrev pub script_too_long : Answer
 script_too_long = refused_with 3 (codes "script: TooLong")
 
 abbrev pub line_answer : ℕ → ScriptKind → Answer
-line_answer line kind = refused_with 3 (codes "line " ++ decimal line ++ codes ": " ++ name_of_refusal kind)
+line_answer line refusal = refused_with 3 (codes "line " ++ decimal line ++ codes ": " ++ name_of_refusal refusal)
 
 abbrev pub no_node : Answer
 no_node = refused_with 3 (codes "node: NoNode")

@@ -8,7 +8,7 @@ use Rattle.sop_model.specs.Faults.{fault_text, is_one_line}
 use Rattle.sop_model.specs.Names.{is_name}
 use Rattle.sop_model.specs.declared.fault.Fault.{Fault}
 use Rattle.sop_model.specs.declared.fault.Fault.TheVariants as variant
-use Rattle.hscript_text.specs.declared.kind.ScriptKind.{ScriptKind}
+use Rattle.hscript_text.specs.declared.refusal.ScriptKind.{ScriptKind}
 use Rattle.hscript_text.specs.declared.script.Script.{Script}
 use Rattle.hscript_text.specs.Script.{script_of}
 use Rattle.sop_cook.specs.declared.cook_end.CookEnd.{CookEnd}
@@ -24,7 +24,7 @@ use Rattle.sopcook.specs.Promise.{SinkSeen, Outside, IsStatus, IsAnswered, Deliv
 -- the script that a text means, or its refusal
 abbrev pub IsRead : Result Script (ℕ × ScriptKind) → Opening → Type 0
 IsRead meant (Read script) = meant ≡ Ok script
-IsRead meant (Refused answer) = (line : ℕ) × (kind : ScriptKind) × (meant ≡ Err (line, kind)) × (answer ≡ line_answer line kind)
+IsRead meant (Refused answer) = (line : ℕ) × (refusal : ScriptKind) × (meant ≡ Err (line, refusal)) × (answer ≡ line_answer line refusal)
 
 -- the script of the text that was loaded, or the answer that such a load gives
 abbrev pub IsOpening : Result (List ℕ) LoadEnd → Opening → Type 0
@@ -34,7 +34,7 @@ IsOpening load (Refused answer) = (names : Names) (node : List ℕ) → (loaded_
 -- why a script is refused: it is missing, or too long, or one of its commands is refused
 abbrev pub IsCaused : Type 0 → Type 0 → Opening → Type 0
 IsCaused missed over (Read script) = ⊤
-IsCaused missed over (Refused answer) = ((answer ≡ no_script) × missed) ⊎ ((answer ≡ script_too_long) × over) ⊎ ((line : ℕ) × (kind : ScriptKind) × (answer ≡ line_answer line kind))
+IsCaused missed over (Refused answer) = ((answer ≡ no_script) × missed) ⊎ ((answer ≡ script_too_long) × over) ⊎ ((line : ℕ) × (refusal : ScriptKind) × (answer ≡ line_answer line refusal))
 
 -- the answer of a fault: one line with the name of a node and the fault
 pub record IsFaultAnswer (fault : Fault) (answer : Answer) : Type 0 where

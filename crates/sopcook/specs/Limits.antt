@@ -1,10 +1,6 @@
 -- The limits of the program.
 use Rattle.std.specs.Prelude.{ℕ}
 
--- the bytes of a script, 4 MiB
-abbrev pub most_script_bytes : ℕ
-most_script_bytes = 4194304
-
 -- the bytes of a file that a node loads, 64 MiB
 abbrev pub most_file_bytes : ℕ
 most_file_bytes = 67108864

@@ -37,10 +37,6 @@ Keeps old new = (name : List ℕ) → Has old name → Has new name
 abbrev pub HasFilesOf : List Node → List ℕ → Loads → Type 0
 HasFilesOf nodes xs loads = (x : ℕ) (name : List ℕ) → Contains xs x → file_of nodes x ≡ Some name → Has loads name
 
--- a `file` node stands under this number
-abbrev pub IsFileNode : List Node → ℕ → Type 0
-IsFileNode nodes x = IsTrue (is_some (file_of nodes x))
-
 -- some file was missing
 abbrev pub HasMissing : Loads → Type 0
 HasMissing loads = (name : List ℕ) × (finite.get loads name ≡ Some load.Missing)

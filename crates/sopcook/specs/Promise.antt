@@ -7,7 +7,7 @@ use Rattle.sop_model.specs.Faults.{fault_text, is_one_line}
 use Rattle.sop_model.specs.Names.{is_name}
 use Rattle.sop_model.specs.declared.fault.Fault.{Fault}
 use Rattle.sop_model.specs.declared.fault.Fault.TheVariants as variant
-use Rattle.hscript_text.specs.declared.kind.ScriptKind.{ScriptKind}
+use Rattle.hscript_text.specs.declared.refusal.ScriptKind.{ScriptKind}
 use Rattle.sopcook.specs.declared.answer.Answer.{Answer}
 use Rattle.sopcook.specs.Request.{request_of}
 use Rattle.sopcook.specs.Answer.{said, words_answer, no_script, script_too_long, line_answer, no_node, read_line, answer_of, echo_of}
@@ -80,7 +80,7 @@ abbrev pub SaysRefusal : Outside → Outside → Type 0
 SaysRefusal before now =
     ((now.err.told ≡ appended before.err.told no_script.err) × Rose before.files.misses now.files.misses)
     ⊎ ((now.err.told ≡ appended before.err.told script_too_long.err) × Rose before.files.overs now.files.overs)
-    ⊎ ((line : ℕ) × (kind : ScriptKind) × (now.err.told ≡ appended before.err.told (line_answer line kind).err))
+    ⊎ ((line : ℕ) × (refusal : ScriptKind) × (now.err.told ≡ appended before.err.told (line_answer line refusal).err))
     ⊎ ((echo : List ℕ) × (now.err.told ≡ appended before.err.told (echo ++ no_node.err)))
 
 -- What stands on `err` with 4: behind the echoed text one line with the name of a node and a fault, so the last line says which fault it is.

@@ -55,13 +55,13 @@ impl Answer {
     }
 
     /// A command of the script is refused.
-    pub fn of_line(alloc: Global, line: u32, kind: ScriptKind) -> Result<Answer, AllocError>
-        ensures { IfOk result (λ answer. answer ≡ line_answer line kind) }
+    pub fn of_line(alloc: Global, line: u32, refusal: ScriptKind) -> Result<Answer, AllocError>
+        ensures { IfOk result (λ answer. answer ≡ line_answer line refusal) }
     {
         let mut text = Vec::from_slice(alloc, b"line ")?;
         text.extend_from_slice(Buffer::new().format(line).as_bytes())?;
         text.extend_from_slice(b": ")?;
-        text.extend_from_slice(kind.name().as_bytes())?;
+        text.extend_from_slice(refusal.name().as_bytes())?;
         Answer::refused(alloc, 3, &text)
     }
 

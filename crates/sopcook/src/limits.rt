@@ -1,8 +1,5 @@
 //! The limits of the program.
 
-/// The bytes of a script, 4 MiB.
-pub const MOST_SCRIPT_BYTES: u64 = 4_194_304;
-
 /// The bytes of a file that a node loads, 64 MiB.
 pub const MOST_FILE_BYTES: u64 = 67_108_864;
 

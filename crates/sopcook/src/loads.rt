@@ -1,9 +1,9 @@
 //! The files that a cook needs, loaded before any is read.
 ghost use Rattle.std.specs.Prelude.{◌≡◌, ◌≤◌, All, Err, Ok, IfOk, IfSome, OnOk};
 ghost use Rattle.sop_outside.specs.Causes.{Counts, Rose};
-ghost use Rattle.sop_net.specs.Needs.{needed};
+ghost use Rattle.sop_net.specs.Needs.{IsFileNode, needed};
 ghost use Rattle.sop_net.specs.Network.{IsLive};
-ghost use Rattle.sopcook.specs.Loads.{Has, HasFilesOf, HasMissing, HoldsLoads, IsFileNode, Keeps, MissesBy, told_files};
+ghost use Rattle.sopcook.specs.Loads.{Has, HasFilesOf, HasMissing, HoldsLoads, Keeps, MissesBy, told_files};
 
 use crate::limits::MOST_FILE_BYTES;
 use crate::run_end::RunEnd;

@@ -3,12 +3,12 @@ ghost use Rattle.std.specs.Prelude.{◌≡◌, ◌≤◌, length, Err, IfOk, IfS
 ghost use Rattle.sop_outside.specs.Causes.{Counts, Rose};
 ghost use Rattle.sop_outside.specs.Load.{load_of};
 ghost use Rattle.hscript_text.specs.Script.{script_of};
-ghost use Rattle.sopcook.specs.Limits.{most_script_bytes};
+ghost use Rattle.hscript_text.specs.Limits.{most_script_bytes};
 ghost use Rattle.sopcook.specs.Endings.{IsOpening, IsRead, IsCaused};
 
 use crate::answer::Answer;
-use crate::limits::MOST_SCRIPT_BYTES;
 use crate::run_end::RunEnd;
+use hscript_text::limits::MOST_SCRIPT_BYTES;
 use hscript_text::{Script, ScriptEnd, read_script};
 use sop_outside::{Files, LoadEnd};
 use std::alloc::Global;
@@ -29,7 +29,7 @@ pub fn open_script<F: Files>(alloc: Global, files: &mut F, script: &str) -> Resu
     ensures opening { IfOk result (λ opening. IfSome (F.told files.old) (λ names. IsOpening (load_of names script.now most_script_bytes) opening)) }
     ensures caused { IfOk result (IsCaused (Rose (F.misses files.old) (F.misses files.new)) (Rose (F.overs files.old) (F.overs files.new))) }
 {
-    match files.load(alloc, script, MOST_SCRIPT_BYTES) {
+    match files.load(alloc, script, MOST_SCRIPT_BYTES as u64) {
         Ok(bytes) => read(alloc, &bytes),
         Err(LoadEnd::Missing) => Ok(Opening::Refused(Answer::of_no_script(alloc)?)),
         Err(LoadEnd::TooLong) => Ok(Opening::Refused(Answer::of_long_script(alloc)?)),
@@ -46,9 +46,12 @@ fn read(alloc: Global, bytes: &[u8]) -> Result<Opening, RunEnd>
 {
     match read_script(alloc, bytes) {
         Ok(script) => Ok(Opening::Read(script)),
-        Err(ScriptEnd::Refused { line, kind }) => {
-            Ok(Opening::Refused(Answer::of_line(alloc, line, kind)?))
-        }
+        Err(
+            ScriptEnd::Refused {
+                line,
+                kind: refusal,
+            },
+        ) => { Ok(Opening::Refused(Answer::of_line(alloc, line, refusal)?)) }
         Err(ScriptEnd::Memory) => Err(RunEnd::Memory),
     }
 }

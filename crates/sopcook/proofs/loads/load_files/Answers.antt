@@ -1,8 +1,9 @@
 use Rattle.std.proofs.Common.{◌≡◌, ◌∙◌, sym, ap, subst, arith, take, rules, inl, inr, ◌++◌, ◌∷◌, []}
 use Rattle.std.proofs.lemmas.List.{take_more}
 use Rattle.std.proofs.Math.Seq.{take-length}
-use Rattle.sopcook.specs.Loads.{HasFilesOf, IsFileNode}
-use Rattle.sopcook.proofs.LoadsLemmas.{file_live, file_type, holds_none, files_none, files_more, none_missing, told_more}
+use Rattle.sop_net.specs.Needs.{IsFileNode}
+use Rattle.sopcook.specs.Loads.{HasFilesOf}
+use Rattle.sopcook.proofs.LoadsLemmas.{holds_none, files_none, files_more, none_missing, told_more}
 use Rattle.sopcook.proofs.Prefixes.{rose_before, rose_later}
 use Rattle.sopcook.proofs.loads.load_files.Goals as goal
 
@@ -18,10 +19,7 @@ loop-node-init g c = record {
 }
 
 pub file_name-requires : goal.file_name-requires
-file_name-requires g c =
-    let nodes = c.args.net.now.nodes in
-    let is_file = subst (λ y. IsFileNode nodes y) (sym c.node-item.is) (c.requires c.loop-node.node-index c.node-item.result c.loop-node-test.true) in
-    record { live = file_live nodes c.node-item.result is_file; file = file_type nodes c.node-item.result is_file }
+file_name-requires g c = subst (λ y. IsFileNode c.args.net.now.nodes y) (sym c.node-item.is) (c.requires c.loop-node.node-index c.node-item.result c.loop-node-test.true)
 
 pub loop-node-preserved : goal.loop-node-preserved
 loop-node-preserved g c =

@@ -2,7 +2,7 @@ use Rattle.std.proofs.Common.{map, rules, subst}
 use Rattle.std.specs.Prelude.{string_bytes, IfSome}
 use Rattle.sop_outside.specs.Causes.{Rose}
 use Rattle.sop_outside.specs.Load.{load_of}
-use Rattle.sopcook.specs.Limits.{most_script_bytes}
+use Rattle.hscript_text.specs.Limits.{most_script_bytes}
 use Rattle.sopcook.specs.Request.{request_seen}
 use Rattle.sopcook.specs.Endings.{IsOpening, IsCaused}
 use Rattle.sopcook.proofs.PromiseLemmas.{script_promise, refused_promise}
@@ -23,3 +23,4 @@ returns-in-Ok-Refused g c =
     refused_promise (map string_bytes c.args.words.now) (request_seen c.in-Ok.request) c.in-Ok.ensures.ok c.in-Ok-Refused.answer c.deliver.result _ _
     (subst (λ opening. IfSome told (λ names. IsOpening (load_of names c.in-Ok.request.script.now most_script_bytes) opening)) c.in-Ok-Refused.field-0-is c.in-Ok-Refused.ensures.opening)
     (subst (IsCaused missed over) c.in-Ok-Refused.field-0-is c.in-Ok-Refused.ensures.caused) c.deliver.ensures (search rules)
+-- x
