@@ -23,4 +23,3 @@ returns-in-Ok-Refused g c =
     refused_promise (map string_bytes c.args.words.now) (request_seen c.in-Ok.request) c.in-Ok.ensures.ok c.in-Ok-Refused.answer c.deliver.result _ _
     (subst (λ opening. IfSome told (λ names. IsOpening (load_of names c.in-Ok.request.script.now most_script_bytes) opening)) c.in-Ok-Refused.field-0-is c.in-Ok-Refused.ensures.opening)
     (subst (IsCaused missed over) c.in-Ok-Refused.field-0-is c.in-Ok-Refused.ensures.caused) c.deliver.ensures (search rules)
--- x
