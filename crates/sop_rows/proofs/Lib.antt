@@ -1,0 +1,17 @@
+pub mod ClassRows
+pub mod HeadLemmas
+pub mod RowSound
+pub mod RowOps
+pub mod ElementOps
+pub mod VertexOps
+pub mod OrderOps
+pub mod FirstLemmas
+pub mod MergeLemmas
+pub mod AppendLemmas
+pub mod MergeSound
+pub mod AppendedParts
+pub mod KeptLemmas
+pub mod SweepLemmas
+pub mod LawLemmas
+pub mod PartLemmas
+pub mod ValuesWithin

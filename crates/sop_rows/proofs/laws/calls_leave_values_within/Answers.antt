@@ -1,0 +1,5 @@
+use Rattle.sop_rows.proofs.LawLemmas.{leave_values_within}
+use Rattle.sop_rows.proofs.laws.calls_leave_values_within.Goals as goal
+
+pub returns : goal.returns
+returns c = leave_values_within

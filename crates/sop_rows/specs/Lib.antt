@@ -1,0 +1,4 @@
+pub mod Marking
+pub mod Both
+pub mod Parts
+pub mod Laws
