@@ -21,7 +21,10 @@ fn words_select_points(rt: HostRuntime) -> Result<(), Fail> {
     ] {
         let pattern = Pattern::read(rt.alloc(), text).expect(&rt, "no bad word");
         let flags = pattern.select(rt.alloc(), &geo, Class::Point);
-        assert_eq!(rt; flags.expect(&rt, "no missing group").as_slice(), &[selected][..]);
+        assert_eq!(rt;
+            flags.expect(&rt, "no missing group").as_slice(),
+            &[selected][..]
+        );
     }
     Ok(())
 }
