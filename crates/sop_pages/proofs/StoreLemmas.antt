@@ -4,7 +4,7 @@ use Rattle.std.specs.Prelude.{Option, Some, None, is_some, slice_index_or, slice
 use Rattle.std.proofs.lemmas.List.Recursion.{is_count_by}
 use Rattle.slab.specs.Slab.{Slab, get, slab_len, Updates, with_value}
 use Rattle.sop_pages.specs.declared.store.Counted.{Counted}
-use Rattle.sop_pages.specs.Pages.{Held, Store, page_at, live_pages, count_of, cells_of, cells, IsLive}
+use Rattle.sop_pages.specs.Pages.{Held, Store, page_at, live_pages, count, count_of, cells_of, cells, IsLive, AreCounted}
 use Rattle.sop_pages.specs.Cells.{IsPage}
 use Rattle.sop_pages.specs.Slots.{held, store_of, AllCounted}
 
@@ -76,3 +76,36 @@ pub live_is_a_page : (s : Slab Counted) (store : Store) → store_of s ≡ store
 live_is_a_page s store is all id live =
     let P : Option Held → Type 0 = λ o. 1 ≤ count_of o → IsPage (cells_of o) in
     subst P (sym (held_at s.slots id) ∙ ap (λ (t : Store). page_at t id) is) (held_is_a_page (get s id) (all id)) live
+
+held_is_counted : (o : Option Counted) → IfSome o (λ c. (1 ≤ c.count) × IsPage c.page) → IfSome (held o) (λ h. 1 ≤ h.1)
+held_is_counted None all = tt
+held_is_counted (Some c) all = all.0
+
+pub each_counted : (s : Slab Counted) (store : Store) → store_of s ≡ store → AllCounted s → AreCounted store
+each_counted s store is all id =
+    let P : Option Held → Type 0 = λ o. IfSome o (λ h. 1 ≤ h.1) in
+    subst P (sym (held_at s.slots id) ∙ ap (λ (t : Store). page_at t id) is) (held_is_counted (get s id) (all id))
+
+abbrev pages_of : Option Held → ℕ
+pages_of None = 0
+pages_of (Some h) = 1
+
+live_first : (o : Option Held) (s : Store) → live_pages (o ∷ s) ≡ pages_of o + live_pages s
+live_first None s = omega arith
+live_first (Some h) s = omega arith
+
+alike : (o p : Option Held) → IfSome o (λ h. 1 ≤ h.1) → IfSome p (λ h. 1 ≤ h.1) → count_of o ≡ count_of p → pages_of o ≡ pages_of p
+alike None None a b e = refl
+alike None (Some q) a b e = absurd (omega arith)
+alike (Some h) None a b e = absurd (omega arith)
+alike (Some h) (Some q) a b e = refl
+
+-- two stores with the same counts have as many pages, where each page has a holder
+pub same_pages : (s t : Store) → AreCounted s → AreCounted t → ((id : ℕ) → count s id ≡ count t id) → live_pages s ≡ live_pages t
+same_pages [] [] a b e = refl
+same_pages [] (y ∷ t) a b e =
+    let h = alike None y tt (b 0) (e 0) in let r = same_pages [] t (λ id. tt) (λ id. b (suc id)) (λ id. e (suc id)) in let l = live_first y t in omega arith
+same_pages (x ∷ s) [] a b e =
+    let h = alike x None (a 0) tt (e 0) in let r = same_pages s [] (λ id. a (suc id)) (λ id. tt) (λ id. e (suc id)) in let l = live_first x s in omega arith
+same_pages (x ∷ s) (y ∷ t) a b e =
+    let h = alike x y (a 0) (b 0) (e 0) in let r = same_pages s t (λ id. a (suc id)) (λ id. b (suc id)) (λ id. e (suc id)) in let l = live_first x s in let m = live_first y t in omega arith

@@ -1,5 +1,5 @@
 -- What contracts see of a store of counted pages.
-use Rattle.std.specs.Prelude.{ℕ, ◌+◌, ◌≤◌, List, [], ◌∷◌, Option, Some, None, slice_index_or}
+use Rattle.std.specs.Prelude.{ℕ, ◌+◌, ◌≤◌, List, [], ◌∷◌, Option, Some, None, slice_index_or, IfSome}
 use Rattle.sop_pages.specs.declared.cell.Cell.{Cell}
 
 -- The cells of a page, and the number of places that hold it.
@@ -32,6 +32,10 @@ cells s id = cells_of (page_at s id)
 -- The id stands for a page.
 abbrev pub IsLive : Store → ℕ → Type 0
 IsLive s id = 1 ≤ count s id
+
+-- Each page that is there has a holder.
+abbrev pub AreCounted : Store → Type 0
+AreCounted s = (id : ℕ) → IfSome (page_at s id) (λ held. 1 ≤ held.1)
 
 -- How many pages there are. A page counts once, however many places hold it.
 abbrev pub live_pages : Store → ℕ

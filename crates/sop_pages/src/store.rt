@@ -1,7 +1,7 @@
 //! The store of counted pages.
 ghost use Rattle.std.specs.Prelude.{◌≡◌, ℕ, ◌∷◌, ◌++◌, ◌+◌, ◌^◌, ◌<◌, ◌≤◌, [], ◌==◌, ◌↔◌, if◌then◌else◌, length, map, take, slice_index_or, slice_set, vec_len, vec_capacity, IfOk, IfErr, OnOk, OnErr, Some, IsTrue};
 ghost use Rattle.slab.specs.Slab.{HasRoomFor};
-ghost use Rattle.sop_pages.specs.Pages.{page_at, IsLive, count, cells, live_pages};
+ghost use Rattle.sop_pages.specs.Pages.{page_at, IsLive, AreCounted, count, cells, live_pages};
 ghost use Rattle.sop_pages.specs.Slots.{store_of, AllCounted};
 ghost use Rattle.sop_pages.specs.Moves.{Moves};
 ghost use Rattle.sop_pages.specs.Cells.{IsPage, with_run};
@@ -280,6 +280,13 @@ impl PageStore {
     /// A law: a live page has 1 to `MOST_CELLS` cells.
     pub fn each_is_a_page(&self)
         ensures { (id : ℕ) → IsLive self.now id → IsPage (cells self.now id) }
+    {
+        let _pages = &self.pages;
+    }
+
+    /// A law: a page that is there has a count of 1 or more.
+    pub fn each_is_counted(&self)
+        ensures { AreCounted self.now }
     {
         let _pages = &self.pages;
     }
