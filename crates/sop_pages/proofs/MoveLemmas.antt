@@ -128,6 +128,14 @@ module _ (a s t : Slab Counted) (ids : List ℕ) (blocks : List (List Cell)) (ke
   pub fill_moves : (after : List ℕ) → after ≡ ids ++ key ∷ [] → Moves (store_of a) (store_of t) [] after
   fill_moves after e = let P : List ℕ → Type 0 = λ xs. Moves (store_of a) (store_of t) [] xs in subst P (sym e) (moves_then (store_of a) (store_of s) (store_of t) [] [] ids (key ∷ []) m one)
 
+  pub fill_fresh : (after : List ℕ) → after ≡ ids ++ key ∷ [] → ((id : ℕ) → 1 ≤ times id ids → count (store_of a) id ≡ 0) → (id : ℕ) → 1 ≤ times id after → count (store_of a) id ≡ 0
+  fill_fresh after e was id held = elim (same_or id key) [
+    | inl q ↦
+        let bare : count (store_of s) key ≡ 0 = ap count_of (sym (found s (store_of s) key key None refl refl (sym free))) in
+        let c = m.counts key in let w = ap (count (store_of a)) q in omega arith
+    | inr n ↦ was id (let t = times_else id key n in let l = ap (times id) e in let p = times-append id ids (key ∷ []) in omega arith)
+  ]
+
   pub fill_cells : (after : List ℕ) → after ≡ ids ++ key ∷ [] → map (cells (store_of s)) ids ≡ blocks → map (cells (store_of t)) after ≡ blocks ++ page ∷ []
   fill_cells after e is =
       ap (map (cells (store_of t))) e ∙ map-append (cells (store_of t)) ids (key ∷ [])

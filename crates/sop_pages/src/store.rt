@@ -3,7 +3,7 @@ ghost use Rattle.std.specs.Prelude.{◌≡◌, ℕ, ◌∷◌, ◌++◌, ◌+◌
 ghost use Rattle.slab.specs.Slab.{HasRoomFor};
 ghost use Rattle.sop_pages.specs.Pages.{page_at, IsLive, AreCounted, count, cells, live_pages};
 ghost use Rattle.sop_pages.specs.Slots.{store_of, AllCounted};
-ghost use Rattle.sop_pages.specs.Moves.{Moves};
+ghost use Rattle.sop_pages.specs.Moves.{times, Moves};
 ghost use Rattle.sop_pages.specs.Cells.{IsPage, with_run};
 
 use crate::cell::Cell;
@@ -95,6 +95,7 @@ impl PageStore {
     /// want of memory. The ids come in the order of the pages.
     pub fn put_all(&mut self, pages: PageList) -> Result<PageIdList, (PageList, AllocError)>
         ensures moves { IfOk result (λ ids. Moves self.old self.new [] ids) }
+        ensures fresh { IfOk result (λ ids. (id : ℕ) → 1 ≤ times id ids → count self.old id ≡ 0) }
         ensures cells { IfOk result (λ ids. map (cells self.new) ids ≡ pages) }
         ensures pages { OnOk result (live_pages self.new ≡ live_pages self.old + length pages) }
         ensures err { IfErr result (λ e. (self.new ≡ self.old) × (e.0 ≡ pages)) }
@@ -361,6 +362,7 @@ fn put_reserved(slab: &mut Slab<Counted>, ids: &mut Vec<PageId>, pages: Vec<Page
     requires ids_room { vec_len pages ≤ vec_capacity ids.old }
     ensures counted { AllCounted slab.new }
     ensures moves { Moves (store_of slab.old) (store_of slab.new) [] ids.new.items }
+    ensures fresh { (id : ℕ) → 1 ≤ times id ids.new.items → count (store_of slab.old) id ≡ 0 }
     ensures cells { map (cells (store_of slab.new)) ids.new.items ≡ pages.items }
     ensures live { live_pages (store_of slab.new) ≡ live_pages (store_of slab.old) + length pages.items }
 {
