@@ -1,13 +1,8 @@
-// A library with one function.
+//! Columns of cells in counted pages: of a store of its own, and of a base that others keep.
 #![tactic(auto)]
 
-ghost use Rattle.std.specs.Prelude.{◌≡◌};
-ghost use Rattle.sop_cells.specs.Echo.{echo_of};
+mod place;
+mod shelf;
 
-// The `ensures` clause is the contract: what `echo` returns is `echo_of` of its argument, a definition
-// in `specs/Echo.antt`, which a caller's clause can cite too.
-pub fn echo(x: usize) -> usize
-    ensures { result ≡ echo_of x }
-{
-    x
-}
+pub use place::{Place, PlaceList};
+pub use shelf::Shelf;
