@@ -1,0 +1,5 @@
+pub mod ReadLemmas
+pub mod GrowLemmas
+pub mod MakeLemmas
+pub mod SortLemmas
+pub mod AddLemmas

@@ -1,0 +1,4 @@
+pub mod Shapes
+pub mod Groups
+pub mod Tests
+pub mod Placing

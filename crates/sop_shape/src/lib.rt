@@ -1,0 +1,9 @@
+//! The shape of a geometry: which primitives are closed, where their vertices end, and the point of each vertex, without any row.
+//! A contract speaks of every geometry that has the shape: what a read answers of it, and which shape it has after a call.
+#![tactic(auto)]
+
+mod growing;
+mod making;
+mod shape;
+
+pub use shape::Shape;
