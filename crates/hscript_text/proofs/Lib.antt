@@ -5,5 +5,6 @@ pub mod Closings
 pub mod Lines
 pub mod Openings
 pub mod Echoing
+pub mod EchoedLines
 pub mod Readings
 pub mod Examples

@@ -5,5 +5,6 @@ pub mod Words
 pub mod Reading
 pub mod Commands
 pub mod Script
+pub mod WholeLines
 pub mod Ends
 pub mod Parts

@@ -1,4 +1,4 @@
-// The four commands of a network.
+//! The four commands of a network.
 ghost use Rattle.std.specs.Prelude.{◌≡◌, Ok, OnOk, IfErr, OnErr};
 ghost use Rattle.hscript_text.specs.Commands.{op_add, op_parm, op_wire, op_rm, carried_out};
 ghost use Rattle.hscript_text.specs.Ends.{EndsAs};

@@ -1,4 +1,4 @@
-// Where a text may be cut.
+//! Where a text may be cut.
 ghost use Rattle.std.specs.Prelude.{◌≡◌, take, drop};
 ghost use Rattle.std.specs.Str.{IsCharBoundary};
 

@@ -1,4 +1,4 @@
-// The echoed text.
+//! The echoed text.
 ghost use Rattle.std.specs.Prelude.{◌≡◌, ◌≤◌, ◌++◌, [], length};
 ghost use Rattle.hscript_text.specs.Script.{line_of_words};
 ghost use Rattle.hscript_text.specs.Parts.{Echoes, between};

@@ -1,4 +1,4 @@
-// Laws of the definitions.
+//! Laws of the definitions.
 ghost use Rattle.std.specs.Prelude.{◌≡◌, ℕ, ◌+◌, List, take, drop};
 ghost use Rattle.hscript_text.specs.declared.style.Style.{Style};
 ghost use Rattle.hscript_text.specs.Pieces.{Variables, word_within};

@@ -1,4 +1,4 @@
-// The limits of command files.
+//! The limits of command files.
 ghost use Rattle.std.specs.Prelude.{◌≡◌};
 ghost use Rattle.hscript_text.specs.Limits.{most_script_bytes, most_word_bytes, most_echoed_bytes};
 

@@ -1,4 +1,4 @@
-// The pieces of a word: runs of plain bytes, escapes and variables.
+//! The pieces of a word: runs of plain bytes, escapes and variables.
 ghost use Rattle.std.specs.Prelude.{◌≡◌, ℕ, ◌+◌, ◌<◌, ◌≤◌, ◌∷◌, [], IfOk, IfErr, length, drop, MatchResult};
 ghost use Rattle.std.specs.List.{prefix_len};
 ghost use Rattle.std.specs.Option.{option_copied, option_map};

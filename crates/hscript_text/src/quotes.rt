@@ -1,4 +1,4 @@
-// Where words end.
+//! Where words end.
 ghost use Rattle.std.specs.Prelude.{◌≡◌, ◌==◌, false, position};
 ghost use Rattle.std.specs.List.{prefix_len};
 ghost use Rattle.hscript_text.specs.Words.{is_bare, may_follow, unescaped_quote};

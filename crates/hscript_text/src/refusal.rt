@@ -1,4 +1,4 @@
-// Why commands and command files are refused.
+//! Why commands and command files are refused.
 ghost use Rattle.std.specs.Prelude.{◌≡◌};
 ghost use Rattle.hscript_text.specs.RefusalNames.{name_of_refusal};
 ghost use Rattle.hscript_text.specs.Parts.{command_end_of, end_of};

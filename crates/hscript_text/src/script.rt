@@ -1,7 +1,8 @@
-// Whole command files.
+//! Whole command files.
 ghost use Rattle.std.specs.Prelude.{◌≡◌, ◌≤◌, Ok, OnOk, IfOk, IfErr, length};
 ghost use Rattle.hscript_text.specs.Limits.{most_script_bytes};
 ghost use Rattle.hscript_text.specs.Script.{start, after, script_from, script_of};
+ghost use Rattle.hscript_text.specs.WholeLines.{AreLines};
 ghost use Rattle.hscript_text.specs.Ends.{EndsAs, IsRefusal};
 
 use crate::commands::carry_out;
@@ -19,7 +20,7 @@ pub struct Script {
     pub echoed: ByteList,
 }
 
-/// The network that a command file builds, and the text that it echoes.
+/// The network that a command file builds, and the text that it echoes, which consists of whole lines.
 ///
 /// `Refused` has the line and the refusal of the first refused command; for bytes that aren't UTF-8 it is `BadBytes`, whatever the commands
 /// are. `Memory` comes for want of memory alone. The time is linear in the bytes and in what the words become.
@@ -27,6 +28,7 @@ pub fn read_script(alloc: Global, bytes: &[u8]) -> Result<Script, ScriptEnd>
     requires { length bytes.now ≤ most_script_bytes }
     ensures ok { IfOk result (λ script. script_of bytes.now ≡ Ok script) }
     ensures refused { IfErr result (λ end. IsRefusal (script_of bytes.now) end) }
+    ensures lines { IfOk result (λ script. AreLines script.echoed) }
 {
     match Reader::new(alloc, bytes) {
         Ok(reader) => carry_out_all(alloc, reader),

@@ -1,4 +1,4 @@
-// What begins between commands.
+//! What begins between commands.
 ghost use Rattle.std.specs.Prelude.{◌≡◌};
 ghost use Rattle.hscript_text.specs.Reading.{start_of};
 

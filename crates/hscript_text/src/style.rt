@@ -1,4 +1,4 @@
-// How words are written, and what begins between them.
+//! How words are written, and what begins between them.
 ghost use Rattle.std.specs.Prelude.{◌≡◌, IsTrue, IsFalse, ◌<◌};
 ghost use Rattle.hscript_text.specs.Pieces.{is_plain};
 ghost use Rattle.hscript_text.specs.Words.{is_script_blank, is_bare, style_of, opening_of};

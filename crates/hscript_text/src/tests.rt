@@ -1,4 +1,4 @@
-// A command file, one that is read command by command, and the refusals that command files give.
+//! A command file, one that is read command by command, and the refusals that command files give.
 use super::*;
 use sop_net::Net;
 use std::test::Fail;

@@ -1,4 +1,4 @@
-// The part of a command file that is still to be read.
+//! The part of a command file that is still to be read.
 ghost use Rattle.std.specs.Prelude.{◌≡◌, ◌<◌, ◌≤◌, ◌-◌, not, length, drop, slice_index, OnOk, OnErr, IfErr, Ok};
 ghost use Rattle.std.specs.List.{prefix_len};
 ghost use Rattle.hscript_text.specs.Reading.{is_line_end, line_ends, start_of, set, is_set, reading_from};

@@ -1,4 +1,4 @@
-// The variables of a command file.
+//! The variables of a command file.
 ghost use Rattle.std.specs.Prelude.{◌≡◌, OnOk, OnErr};
 ghost use Rattle.std.specs.Option.{option_copied};
 ghost use Rattle.hscript_text.specs.Pieces.{no_variables, with_variable};

@@ -1,4 +1,4 @@
-// What the commands of a network are called.
+//! What the commands of a network are called.
 ghost use Rattle.std.specs.Prelude.{◌≡◌};
 ghost use Rattle.hscript_text.specs.Commands.{verb_of};
 

@@ -1,4 +1,4 @@
-// A word from its pieces.
+//! A word from its pieces.
 ghost use Rattle.std.specs.Prelude.{◌≡◌, ◌<◌, ◌≤◌, ◌∷◌, false, Ok, IfOk, IfErr, length, drop, string_bytes};
 ghost use Rattle.std.specs.List.{prefix_len};
 ghost use Rattle.hscript_text.specs.Pieces.{is_plain, special, word_of};

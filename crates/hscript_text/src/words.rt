@@ -1,4 +1,4 @@
-// The words of a command.
+//! The words of a command.
 ghost use Rattle.std.specs.Prelude.{◌≡◌, ◌<◌, ◌≤◌, ◌==◌, Ok, IfOk, IfErr, length, drop, position, slice_index, false};
 ghost use Rattle.std.specs.Str.{IsUtf8};
 ghost use Rattle.hscript_text.specs.declared.style.Opening.TheVariants as opening;
