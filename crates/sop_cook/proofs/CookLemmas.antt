@@ -16,7 +16,8 @@ use Rattle.sop_cook.specs.Loads.{FileMap}
 use Rattle.sop_cook.specs.Made.{made, is_built}
 use Rattle.sop_cook.specs.Visit.{Outcome, at_node, Visit, ask, ask_all, visit_if, visit}
 use Rattle.sop_cook.specs.SerialCook.{run, cook_of}
-use Rattle.sop_cook.specs.Keeping.{Tells, GoesOn, EndsSo}
+use Rattle.sop_cook.specs.Ends.{Tells}
+use Rattle.sop_cook.specs.Parts.{GoesOn, EndsSo}
 use Rattle.sop_cook.proofs.SerialCookLemmas.{cook_runs_visit}
 
 -- the cook of a node is what its visit tells

@@ -9,7 +9,7 @@ use Rattle.sop_cook.specs.declared.serial.Cooking.{Cooking}
 use Rattle.sop_cook.specs.Loads.{file_in}
 use Rattle.sop_cook.specs.Visit.{Outcome}
 use Rattle.sop_cook.specs.SerialCook.{cook_of}
-use Rattle.sop_cook.specs.Keeping.{IsKept}
+use Rattle.sop_cook.specs.Parts.{IsKept}
 use Rattle.sop_cook.specs.Cooking.{nodes_of, gives, IsRunning, RunsOn}
 
 pub same_gives : (a b : Cooking) → b.net.now ≡ a.net.now → b.loaded.now ≡ a.loaded.now → ◌≡◌ {A = ℕ → Outcome} (gives b) (gives a)

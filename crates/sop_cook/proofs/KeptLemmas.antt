@@ -8,7 +8,8 @@ use Rattle.sop_net.specs.Network.{place_of}
 use Rattle.sop_net.proofs.RoomLemmas.{same_number}
 use Rattle.sop_cook.specs.declared.kept.Kept.{Kept}
 use Rattle.sop_cook.specs.Visit.{Outcome}
-use Rattle.sop_cook.specs.Keeping.{IsKept, IsReady, AreNone}
+use Rattle.sop_cook.specs.Ends.{IsReady}
+use Rattle.sop_cook.specs.Parts.{IsKept, AreNone}
 
 geo_there : {X : Type 0} (xs : List (Option X)) (x y : ℕ) (v : Option X) (g : X) → slice_get (set xs x v) y ≡ Some (Some g) → ((y ≡ x) × (v ≡ Some g)) ⊎ (slice_get xs y ≡ Some (Some g))
 geo_there [] x y v g h = inr h

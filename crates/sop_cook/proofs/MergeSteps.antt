@@ -18,7 +18,8 @@ use Rattle.sop_model.proofs.PlainMerge.{merged-push}
 use Rattle.sop_model.specs.Limits.{most_points, most_prims, most_vertices}
 use Rattle.sop_model.proofs.LimitsLemmas.{fits-true, Fits-from_fits, fits_within, within_points, within_prims, within_vertices}
 use Rattle.sop_cook.specs.Made.{given, merge_geo}
-use Rattle.sop_cook.specs.Keeping.{TellsMade, IsReady, Merged, is_over_limits, are_over}
+use Rattle.sop_cook.specs.Ends.{IsReady}
+use Rattle.sop_cook.specs.Parts.{TellsMade, Merged, is_over_limits, are_over}
 use Rattle.sop_cook.proofs.MergeLemmas.{points_in, prims_in, vertices_in, length-merged_points, length-merged_prims, length-merged_corners}
 use Rattle.sop_cook.proofs.ReadyLemmas.{IsPlain-from_ready}
 

@@ -15,7 +15,8 @@ use Rattle.sop_model.specs.Plain.{IsPlain, plain_append, shifted_prim, shifted_c
 use Rattle.sop_model.proofs.PlainLemmas.{IsPlain-from_sound}
 use Rattle.sop_model.proofs.PlainMerge.{IsPlain-append, IsPlain-empty_geo, IsSound-append, IsSound-empty_geo, corners_of-append}
 use Rattle.sop_model.proofs.RowLists.{All-left, All-right}
-use Rattle.sop_cook.specs.Keeping.{IsReady, is_over_limits, are_over}
+use Rattle.sop_cook.specs.Ends.{IsReady}
+use Rattle.sop_cook.specs.Parts.{is_over_limits, are_over}
 use Rattle.sop_model.proofs.LimitsLemmas.{within_points, fits_within, readable_of}
 use Rattle.sop_model.proofs.PlainLimits.{IsWithin-from_only, Fits-from_plain}
 

@@ -18,7 +18,7 @@ use Rattle.sop_net.specs.Needs.{file_of_node, file_of_type}
 use Rattle.sop_cook.specs.declared.loaded.LoadedFile.{LoadedFile}
 use Rattle.sop_cook.specs.declared.loaded.LoadedFile.TheVariants.{Bytes, Missing, TooLong}
 use Rattle.sop_cook.specs.Loads.{FileMap}
-use Rattle.sop_cook.specs.Made.{unrefused, file_geo, merge_geo, given, only, made_by, made}
+use Rattle.sop_cook.specs.Made.{unrefused, file_geo, merge_geo, given, only, maker_of, made_by, made}
 use Rattle.sop_cook.specs.Visit.{Outcome, Failure, failed, at_node, Visit, visit}
 use Rattle.sop_cook.specs.SerialCook.{run, cooked, cook_of}
 use Rattle.sop_cook.specs.Laws.{Asks, IsUsedWire, AreAlike, IsMissing}
@@ -132,7 +132,7 @@ only_finds [] h = cc
 only_finds (Some g ∷ inputs) h = cc
 only_finds (None ∷ inputs) h = cc
 
-made_missing : (files : FileMap) (n : Node) (t : NodeType) (inputs : List (Option Geo)) → made_by t files n inputs ≡ Err fault.NoFile → (file_of_type t n ≡ Some (parm_at n.parms 0)) × (files (parm_at n.parms 0) ≡ Missing)
+made_missing : (files : FileMap) (n : Node) (t : NodeType) (inputs : List (Option Geo)) → made_by (maker_of t) files n inputs ≡ Err fault.NoFile → (file_of_type t n ≡ Some (parm_at n.parms 0)) × (files (parm_at n.parms 0) ≡ Missing)
 made_missing files n type.File inputs h = (refl, file_missing (files (parm_at n.parms 0)) h)
 made_missing files n type.Merge inputs h = absurd (merge_finds (given inputs) h)
 made_missing files n type.Null inputs h = absurd (only_finds inputs h)
@@ -180,7 +180,7 @@ only_named [] = refl
 only_named (Some g ∷ inputs) = tt
 only_named (None ∷ inputs) = refl
 
-made_named : (files : FileMap) (n : Node) (t : NodeType) (inputs : List (Option Geo)) → IsNamed (made_by t files n inputs)
+made_named : (files : FileMap) (n : Node) (t : NodeType) (inputs : List (Option Geo)) → IsNamed (made_by (maker_of t) files n inputs)
 made_named files n type.File inputs = file_named (files (parm_at n.parms 0))
 made_named files n type.Merge inputs = merge_named (given inputs)
 made_named files n type.Null inputs = only_named inputs

@@ -5,7 +5,7 @@ use Rattle.sop_cook.specs.declared.serial.Cooking.{Cooking}
 use Rattle.sop_cook.specs.Loads.{file_in}
 use Rattle.sop_cook.specs.Visit.{Outcome}
 use Rattle.sop_cook.specs.SerialCook.{cook_of}
-use Rattle.sop_cook.specs.Keeping.{IsKept}
+use Rattle.sop_cook.specs.Parts.{IsKept}
 
 abbrev pub nodes_of : Cooking → List Node
 nodes_of c = c.net.now.nodes

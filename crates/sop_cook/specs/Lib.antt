@@ -3,5 +3,6 @@ pub mod Made
 pub mod Visit
 pub mod SerialCook
 pub mod Laws
-pub mod Keeping
+pub mod Ends
+pub mod Parts
 pub mod Cooking

@@ -3,7 +3,7 @@
 -- A file node gives the geometry of its file: NoFile where it is missing, Limit where it is longer than 64 MiB, and NotYet where it is out of
 -- the plain form or past a limit of OBJ. A merge gives the merge of its inputs, or Limit where this passes a limit of a geometry. A null and
 -- a switch give their only input.
-use Rattle.std.specs.Prelude.{Bool, true, false, if◌then◌else◌, List, ◌∷◌, flat_map, option_to_list, Option, Some, Result, Ok, Err}
+use Rattle.std.specs.Prelude.{Bool, if◌then◌else◌, List, ◌∷◌, flat_map, option_to_list, Option, None, Some, is_some, Result, Ok, Err}
 use Rattle.sop_model.specs.declared.geo.Geo.{Geo}
 use Rattle.sop_model.specs.declared.fault.Fault.{Fault}
 use Rattle.sop_model.specs.declared.fault.Fault.TheVariants as fault
@@ -41,21 +41,26 @@ abbrev pub only : List (Option Geo) → Result Geo Fault
 only (Some g ∷ inputs) = Ok g
 only other = Err (fault.NoInput 0)
 
-abbrev pub made_by : NodeType → FileMap → Node → List (Option Geo) → Result Geo Fault
-made_by type.File files n inputs = file_geo (files (parm_at n.parms 0))
-made_by type.Merge files n inputs = merge_geo (given inputs)
-made_by type.Null files n inputs = only inputs
-made_by type.Switch files n inputs = only inputs
-made_by other files n inputs = Err fault.NotYet
+-- what nodes of one type make of what the files are, of the node and of its inputs, one for each socket
+abbrev pub Maker : Type 0
+Maker = FileMap → Node → List (Option Geo) → Result Geo Fault
 
--- what a node makes of its inputs, one for each socket, and of what the files are
-abbrev pub made : FileMap → Node → List (Option Geo) → Result Geo Fault
-made files n inputs = made_by n.node_type files n inputs
+-- The table of types: what makes the geometry of their nodes, and None where they can't be cooked yet.
+abbrev pub maker_of : NodeType → Option Maker
+maker_of type.File = Some (λ files n inputs. file_geo (files (parm_at n.parms 0)))
+maker_of type.Merge = Some (λ files n inputs. merge_geo (given inputs))
+maker_of type.Null = Some (λ files n inputs. only inputs)
+maker_of type.Switch = Some (λ files n inputs. only inputs)
+maker_of other = None
+
+abbrev pub made_by : Option Maker → Maker
+made_by (Some maker) files n inputs = maker files n inputs
+made_by None files n inputs = Err fault.NotYet
+
+-- what a node makes of its inputs
+abbrev pub made : Maker
+made files n inputs = made_by (maker_of n.node_type) files n inputs
 
 -- whether nodes of this type can be cooked yet
 abbrev pub is_built : NodeType → Bool
-is_built type.File = true
-is_built type.Merge = true
-is_built type.Null = true
-is_built type.Switch = true
-is_built other = false
+is_built t = is_some (maker_of t)

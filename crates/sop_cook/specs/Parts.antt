@@ -1,28 +1,21 @@
--- What a cook keeps of finished nodes, and what its steps tell.
-use Rattle.std.specs.Prelude.{◌≡◌, ℕ, ⊤, List, Option, Some, Result, Ok, Err, length, slice_get, Bool, nat_lt, ◌||◌, ◌+◌, All, IsTrue}
+-- What the parts of a cook ensure, and what a cook keeps of finished nodes. For private contracts.
+use Rattle.std.specs.Prelude.{◌≡◌, ℕ, ⊤, List, Option, Some, Result, Ok, Err, length, slice_get, Bool, nat_lt, ◌||◌, ◌+◌, All}
 use Rattle.sop_model.specs.Vertices.{corners_of}
 use Rattle.sop_model.specs.declared.geo.Geo.{Geo}
 use Rattle.sop_model.specs.declared.fault.Fault as fault
 use Rattle.sop_model.specs.declared.fault.CookStop.{CookStop}
 use Rattle.sop_model.specs.declared.fault.CookStop.TheVariants as stop
-use Rattle.sop_model.specs.Faults.{has_named_node}
-use Rattle.sop_model.specs.Geometry.{IsGood, Fits, HasOnlyPosition}
 use Rattle.sop_model.specs.Limits.{most_points, most_prims, most_vertices}
 use Rattle.sop_model.specs.Merge.{merged}
 use Rattle.sop_model.specs.Plain.{IsPlain}
 use Rattle.sop_net.specs.declared.node.Node.{Node}
-use Rattle.sop_net.specs.Network.{place_of, IsLive}
+use Rattle.sop_net.specs.Network.{place_of}
 use Rattle.sop_cook.specs.declared.cook_end.CookEnd.{CookEnd}
 use Rattle.sop_cook.specs.declared.cook_end.CookEnd.TheVariants as end
 use Rattle.sop_cook.specs.declared.kept.Kept.{Kept}
 use Rattle.sop_cook.specs.Visit.{Outcome, failed, Visit}
 use Rattle.sop_cook.specs.SerialCook.{run}
-
--- a well made geometry within its limits that has `P` alone
-pub record IsReady (g : Geo) : Type 0 where
-  pub good : IsGood g
-  pub fits : Fits g
-  pub position : HasOnlyPosition g
+use Rattle.sop_cook.specs.Ends.{IsReady}
 
 -- more points, primitives or vertices than a geometry may have
 abbrev pub is_over_limits : ℕ → ℕ → ℕ → Bool
@@ -38,13 +31,7 @@ pub record Merged (gs : List Geo) (into : Geo) : Type 0 where
   pub plain : All IsPlain gs
   pub ready : IsReady into
 
--- the code answers exactly what the node gives, or want of memory
-abbrev pub Tells : Outcome → Result Geo CookEnd → Type 0
-Tells outcome (Ok g) = outcome ≡ Ok g
-Tells outcome (Err (end.Fault x f)) = outcome ≡ Err (failed x f)
-Tells outcome (Err end.Memory) = ⊤
-
--- the same, of what one node makes
+-- the code answers exactly what one node makes, or want of memory
 abbrev pub TellsMade : Result Geo fault.Fault → Result Geo CookStop → Type 0
 TellsMade outcome (Ok g) = outcome ≡ Ok g
 TellsMade outcome (Err (stop.Fault f)) = outcome ≡ Err f
@@ -58,16 +45,6 @@ GoesOn {A} go asks answer = (more : A → Visit) → run go (asks more) ≡ run 
 abbrev pub EndsSo : {A : Type 0} → (ℕ → Outcome) → ((A → Visit) → Visit) → CookEnd → Type 0
 EndsSo {A} go asks (end.Fault x f) = (more : A → Visit) → run go (asks more) ≡ Err (failed x f)
 EndsSo {A} go asks end.Memory = ⊤
-
--- the node of a fault stands
-abbrev pub IsAtLive : List Node → CookEnd → Type 0
-IsAtLive nodes (end.Fault x f) = IsLive nodes x
-IsAtLive nodes end.Memory = ⊤
-
--- the node that a fault names has a name
-abbrev pub HasNamedNode : CookEnd → Type 0
-HasNamedNode (end.Fault x f) = IsTrue (has_named_node f)
-HasNamedNode end.Memory = ⊤
 
 -- each kept geometry is what its node gives
 pub record IsKept (go : ℕ → Outcome) (nodes : List Node) (kept : Kept) : Type 0 where

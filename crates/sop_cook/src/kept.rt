@@ -1,7 +1,7 @@
 //! What a cook keeps of finished nodes.
 ghost use Rattle.std.specs.Prelude.{◌≡◌, ◌<◌, ◌⊎◌, length, IfOk, None, Some, OnErr, OnOk, slice_get, slice_index, slice_set};
 ghost use Rattle.sop_net.specs.Network.{IsLive};
-ghost use Rattle.sop_cook.specs.Keeping.{AreNone};
+ghost use Rattle.sop_cook.specs.Parts.{AreNone};
 
 use crate::uses::uses_of;
 use sop_model::{Copied, Geo};

@@ -3,7 +3,8 @@ ghost use Rattle.std.specs.Prelude.{◌≡◌, All, IfOk, IfSome};
 ghost use Rattle.sop_net.specs.Network.{IsLive, node_of};
 ghost use Rattle.sop_cook.specs.Loads.{file_in};
 ghost use Rattle.sop_cook.specs.Made.{file_geo, is_built, made, only};
-ghost use Rattle.sop_cook.specs.Keeping.{IsReady, TellsMade};
+ghost use Rattle.sop_cook.specs.Ends.{IsReady};
+ghost use Rattle.sop_cook.specs.Parts.{TellsMade};
 
 use crate::loaded::{Loaded, LoadedFile};
 use crate::merge::merge;

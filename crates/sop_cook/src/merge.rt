@@ -3,12 +3,13 @@ ghost use Rattle.std.specs.Prelude.{◌≡◌, ◌<◌, ◌+◌, ◌++◌, ◌^�
 ghost use Rattle.sop_model.specs.Geometry.{IsReadable};
 ghost use Rattle.sop_model.specs.declared.fault.Fault.{Fault};
 ghost use Rattle.sop_model.specs.declared.geo.Geo.{Geo};
-ghost use Rattle.sop_cook.specs.Keeping.{IsReady, Merged, TellsMade, are_over};
+ghost use Rattle.sop_cook.specs.Ends.{IsReady};
+ghost use Rattle.sop_cook.specs.Parts.{Merged, TellsMade, are_over};
 ghost use Rattle.sop_cook.specs.Made.{given, merge_geo};
 ghost use Rattle.sop_model.specs.Plain.{plain_append, shifted_corner, shifted_prim};
 
 use sop_model::limits::{MOST_POINTS, MOST_PRIMS, MOST_VERTICES};
-use sop_model::{Class, CookStop, CornerList, Fault, Geo, GeoView, Prim, PrimList, RowList};
+use sop_model::{Class, CookStop, CornerList, Fault, Geo, GeoView, Prim, PrimList};
 use std::alloc::{AllocError, Global};
 
 /// The merge of the inputs that are wired, in order.
@@ -52,7 +53,8 @@ fn append(into: &mut Geo, from: Geo) -> Result<(), CookStop>
         return Err(CookStop::Fault(Fault::Limit));
     }
     let before = into.count(Class::Point);
-    append_rows(&mut into.points, from.points)?;
+    let mut points = from.points;
+    into.points.append(&mut points)?;
     append_prims(&mut into.prims, from.prims, before)?;
     Ok(())
 }
@@ -67,16 +69,6 @@ fn is_over(into: &Geo, from: &Geo) -> bool
     count(Class::Point) > MOST_POINTS
         || count(Class::Prim) > MOST_PRIMS
         || count(Class::Vertex) > MOST_VERTICES
-}
-
-/// Puts rows behind others.
-fn append_rows(into: &mut RowList, from: RowList) -> Result<(), AllocError>
-    ensures { OnOk result (into.new ≡ into.old ++ from) }
-{
-    for row in from.into_vec() {
-        into.add(row)?;
-    }
-    Ok(())
 }
 
 /// Puts primitives behind others, each of whose points stands behind so many others.

@@ -9,7 +9,8 @@ ghost use Rattle.sop_cook.specs.Loads.{file_in};
 ghost use Rattle.sop_cook.specs.Visit.{at_node, ask, ask_all};
 ghost use Rattle.sop_cook.specs.SerialCook.{cook_of};
 ghost use Rattle.sop_cook.specs.Laws.{IsMissing};
-ghost use Rattle.sop_cook.specs.Keeping.{HasNamedNode, IsAtLive, Tells, TellsMade, GoesOn, EndsSo, IsReady};
+ghost use Rattle.sop_cook.specs.Ends.{HasNamedNode, IsAtLive, Tells, IsReady};
+ghost use Rattle.sop_cook.specs.Parts.{TellsMade, GoesOn, EndsSo};
 ghost use Rattle.sop_cook.specs.Cooking.{nodes_of, gives, IsRunning, RunsOn};
 
 use crate::cook_end::CookEnd;

@@ -1,16 +1,19 @@
 -- How a run ends once its script was read.
 use Rattle.std.proofs.Common.{◌≡◌, ℕ, ◌≤◌, List, ◌++◌, ◌⊎◌, inl, inr, refl, ◌∙◌, ap, subst, arith}
-use Rattle.std.specs.Prelude.{Option, None, Some, IfSome}
+use Rattle.std.specs.Prelude.{Option, None, Some, IfSome, codes}
 use Rattle.sop_outside.specs.Causes.{Rose}
 use Rattle.sop_outside.specs.Told.{appended, AppendsPrefix}
 use Rattle.hscript_text.specs.declared.script.Script.{Script}
+use Rattle.hscript_text.specs.WholeLines.{AreLines}
 use Rattle.sopcook.specs.declared.answer.Answer.{Answer}
 use Rattle.sopcook.specs.declared.run_end.RunEnd.{RunEnd}
 use Rattle.sopcook.specs.declared.run_end.RunEnd.TheVariants as end
-use Rattle.sopcook.specs.Answer.{no_node, echoing, node_answer, read_line}
-use Rattle.sopcook.specs.Promise.{SinkSeen, Outside, IsStatus, IsAnswered, Delivers, DeliversPrefix, SaysFault, GoesOn}
+use Rattle.sop_model.specs.Faults.{fault_text}
+use Rattle.sopcook.specs.Answer.{said, no_node, echoing, node_answer, read_line}
+use Rattle.sopcook.specs.Promise.{SinkSeen, Outside, IsStatus, IsAnswered, Delivers, DeliversPrefix, EndsWithLine, SaysFault, GoesOn}
 use Rattle.sopcook.specs.Endings.{IsNodeAnswer, IsNamedAnswer, Delivery, EndWithout, ScriptEnding}
 use Rattle.sopcook.proofs.Prefixes.{rose_before, AppendsPrefix-none, prefix_behind, front_prefix, told_behind}
+use Rattle.sopcook.proofs.LineLemmas.{line_no_node, line_read, line_fault, ends_as}
 
 -- what holds of the bytes that files tell
 pub each_told : {A : Type 0} (P Q : A → Type 0) (told : Option A) → ((names : A) → P names → Q names) → IfSome told P → IfSome told Q
@@ -61,7 +64,10 @@ three_is_no_node : (missed : Type 0) (answer : Answer) (status : ℕ) → IsName
 three_is_no_node missed answer status (inl none) is three = none
 three_is_no_node missed answer status (inr node) is three = elim (node_status missed answer node) [ inl zero ↦ absurd (omega (arith, is, three, zero)) | inr four ↦ absurd (omega (arith, is, three, four)) ]
 
-module _ (missed : Type 0) (answer : Answer) (echo : List ℕ) (before now : Outside) where
+module _ (missed : Type 0) (answer : Answer) (echo : List ℕ) (lines : AreLines echo) (before now : Outside) where
+  three_says_no_node : (status : ℕ) → IsNamedAnswer missed answer → status ≡ answer.status → status ≡ 3 → now.err.told ≡ appended before.err.told (echo ++ answer.err) → EndsWithLine echo no_node.err before.err now.err
+  three_says_no_node status named is three told = ends_as echo answer.err no_node.err before.err now.err lines line_no_node (ap (λ (a : Answer). a.err) (three_is_no_node missed answer status named is three)) told
+
   four_is_a_fault : (status : ℕ) → IsNamedAnswer missed answer → (missed → Rose before.files.misses now.files.misses) → status ≡ answer.status → status ≡ 4 → now.err.told ≡ appended before.err.told (echo ++ answer.err) → SaysFault before now
   four_is_a_fault status (inl none) rose is four told = let three = ap (λ (a : Answer). a.status) none in absurd (omega (arith, three, is, four))
   four_is_a_fault status (inr (inl zero)) rose is four told = absurd (omega (arith, zero, is, four))
@@ -69,17 +75,16 @@ module _ (missed : Type 0) (answer : Answer) (echo : List ℕ) (before now : Out
     echo = echo;
     node = line.node;
     fault = f;
-    err = told ∙ ap (λ (a : Answer). appended before.err.told (echo ++ a.err)) line.is;
+    err = ends_as echo answer.err (said (line.node ++ codes ": " ++ fault_text f)) before.err now.err lines (line_fault line.node (fault_text f) line.is_name line.is_one_line) (ap (λ (a : Answer). a.err) line.is) told;
     is_name = line.is_name;
-    is_one_line = line.is_one_line;
     no_file = λ e. rose (cause e);
   }
 
 -- the answer of a node was written behind the echoed text
-pub ending_delivered : (script : Script) (node : List ℕ) (answer : Answer) (status : ℕ) (before now : Outside) (mid : SinkSeen)
+pub ending_delivered : (script : Script) (node : List ℕ) (answer : Answer) (status : ℕ) (before now : Outside) (mid : SinkSeen) → AreLines script.echoed
     → IfSome before.files.told (λ names. answer ≡ node_answer names script.net.nodes node) → IsNamedAnswer (Rose before.files.misses now.files.misses) answer → mid.told ≡ appended before.err.told script.echoed
     → before.err.faults ≤ mid.faults → Delivery answer status before.out now.out mid now.err → GoesOn before now → ScriptEnding script node status before now
-ending_delivered script node answer status before now mid meant named echoed later d on =
+ending_delivered script node answer status before now mid lines meant named echoed later d on =
     let missed = Rose before.files.misses now.files.misses in
     let no : 5 ≤ status → (status ≡ 6 → ⊥) → ⊥ = not_delivered status d.is_status in
     record {
@@ -97,11 +102,10 @@ ending_delivered script node answer status before now mid meant named echoed lat
       no_words = λ two. no_words missed answer status named (d.answered (inr (inl two))).0 two;
       no_node = λ three.
           let w = d.answered (inr (inr (inl three))) in
-          told_behind before.err.told mid.told now.err.told script.echoed answer.err echoed w.2
-          ∙ ap (λ (a : Answer). appended before.err.told (script.echoed ++ a.err)) (three_is_no_node missed answer status named w.0 three);
+          three_says_no_node missed answer script.echoed lines before now status named w.0 three (told_behind before.err.told mid.told now.err.told script.echoed answer.err echoed w.2);
       fault = λ four.
           let w = d.answered (inr (inr (inr four))) in
-          four_is_a_fault missed answer script.echoed before now status named (λ rose. rose) w.0 four (told_behind before.err.told mid.told now.err.told script.echoed answer.err echoed w.2);
+          four_is_a_fault missed answer script.echoed lines before now status named (λ rose. rose) w.0 four (told_behind before.err.told mid.told now.err.told script.echoed answer.err echoed w.2);
       on = on;
     }
 
@@ -135,14 +139,18 @@ from_five status (inr (inl six)) = omega (arith, six)
 from_five status (inr (inr seven)) = omega (arith, seven)
 
 -- a load failed or memory was wanting, behind the echoed text
-pub ending_without : (script : Script) (node : List ℕ) (e : RunEnd) (status : ℕ) (before now : Outside) (mid : SinkSeen) → (e ≡ end.Read → Rose before.files.faults now.files.faults) → now.out.told ≡ before.out.told
+pub ending_without : (script : Script) (node : List ℕ) (e : RunEnd) (status : ℕ) (before now : Outside) (mid : SinkSeen) → AreLines script.echoed → (e ≡ end.Read → Rose before.files.faults now.files.faults) → now.out.told ≡ before.out.told
     → mid.told ≡ appended before.err.told script.echoed → before.err.faults ≤ mid.faults → EndWithout e status mid now.err → GoesOn before now → ScriptEnding script node status before now
-ending_without script node e status before now mid cause out echoed later w on =
+ending_without script node e status before now mid lines cause out echoed later w on =
     let many : 5 ≤ status = from_five status (end_status w) in
     record {
       is_status = inr (end_status w);
       answered = λ a. absurd (unanswered status a many);
-      read_fault = λ five. (cause (end_is_read w (omega (arith, five))), out, told_behind before.err.told mid.told now.err.told script.echoed read_line echoed (w.written five));
+      read_fault = λ five. (
+        cause (end_is_read w (omega (arith, five))),
+        out,
+        ends_as script.echoed read_line read_line before.err now.err lines line_read refl (told_behind before.err.told mid.told now.err.told script.echoed read_line echoed (w.written five)),
+      );
       write_fault = λ six. inr (rose_before before.err.faults mid.faults now.err.faults later (w.failed six).0);
       part = λ six. inr (cause (end_is_read w (omega (arith, six))), out, prefix_behind before.err.told mid.told now.err.told script.echoed read_line echoed (w.failed six).1);
       memory = λ seven. (out, w.memory seven ∙ echoed);

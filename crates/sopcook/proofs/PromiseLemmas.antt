@@ -7,14 +7,17 @@ use Rattle.sop_outside.specs.Told.{appended, AppendsPrefix}
 use Rattle.hscript_text.specs.declared.refusal.ScriptKind.{ScriptKind}
 use Rattle.hscript_text.specs.declared.script.Script.{Script}
 use Rattle.sopcook.specs.declared.answer.Answer.{Answer}
+use Rattle.sopcook.specs.declared.run_end.RunEnd.{RunEnd}
+use Rattle.sopcook.specs.declared.run_end.RunEnd.TheVariants as end
 use Rattle.sopcook.specs.declared.script.Opening.TheVariants.{Read, Refused}
 use Rattle.hscript_text.specs.Limits.{most_script_bytes}
 use Rattle.sopcook.specs.Request.{Asked, request_of}
-use Rattle.sopcook.specs.Answer.{no_script, script_too_long, line_answer, no_node, echoing, node_answer, script_answer, loaded_answer, asked_answer, answer_of, script_echo, loaded_echo, asked_echo, echo_of}
-use Rattle.sopcook.specs.Promise.{FilesSeen, Outside, Delivers, DeliversPrefix, IsEcho, GoesOn, Promise}
-use Rattle.sopcook.specs.Endings.{IsOpening, IsCaused, Delivery, ScriptEnding}
-use Rattle.sopcook.proofs.Prefixes.{rose_before, AppendsPrefix-whole, front_prefix}
-use Rattle.sopcook.proofs.EndingLemmas.{each_told, not_delivered}
+use Rattle.sopcook.specs.Answer.{no_script, script_too_long, line_answer, no_node, echoing, node_answer, script_answer, loaded_answer, asked_answer, answer_of, script_echo, loaded_echo, asked_echo, echo_of, read_line}
+use Rattle.sopcook.specs.Promise.{FilesSeen, Outside, Delivers, DeliversPrefix, IsEcho, EndsWithLine, GoesOn, Promise}
+use Rattle.sopcook.specs.Endings.{IsOpening, IsCaused, Delivery, EndWithout, ScriptEnding}
+use Rattle.sopcook.proofs.Prefixes.{rose_before, AppendsPrefix-whole, AppendsPrefix-none, front_prefix}
+use Rattle.sopcook.proofs.LineLemmas.{line_no_script, line_too_long, line_refusal, line_read, ends_as}
+use Rattle.sopcook.proofs.EndingLemmas.{each_told, always_told, unanswered, not_delivered, end_status, end_is_read, from_five}
 
 -- words that are asked for aren't refused
 not_refused : {R : Type 0} (words : List (List ℕ)) (request : Asked) → request_of words ≡ Some request → request_of words ≡ None → R
@@ -40,6 +43,32 @@ module _ (words : List (List ℕ)) (request : Asked) (asked : request_of words �
   no_echo : (told : Option Names) → IsEcho told words []
   no_echo None = tt
   no_echo (Some names) = inl refl
+
+  -- the load of the script failed, or memory was wanting
+  pub unopened_promise : (e : RunEnd) (status : ℕ) (before now : Outside) → (e ≡ end.Read → Rose before.files.faults now.files.faults) → now.out.told ≡ before.out.told → EndWithout e status before.err now.err
+      → GoesOn before now → Promise words status before now
+  unopened_promise e status before now cause out w on =
+      let many : 5 ≤ status = from_five status (end_status w) in
+      record {
+        is_status = inr (end_status w);
+        answered = λ a. absurd (unanswered status a many);
+        read_fault = λ five. (
+          cause (end_is_read w (omega (arith, five))),
+          record { echo = []; is_echo = no_echo before.files.told; out = out; err = ends_as [] read_line read_line before.err now.err (inl refl) line_read refl (w.written five) },
+        );
+        write_fault = λ six. inr (w.failed six).0;
+        part = λ six. inr (cause (end_is_read w (omega (arith, six))), record { echo = []; is_echo = no_echo before.files.told; out = out; err = (w.failed six).1 });
+        memory = λ seven. record {
+          out = out;
+          err = always_told (λ names. AppendsPrefix before.err.told now.err.told (answer_of words names).err) before.files.told
+              (λ names. AppendsPrefix-none before.err.told now.err.told (answer_of words names).err (w.memory seven));
+        };
+        words_refused = λ two. absurd (omega (arith, two, many));
+        refused_words = λ none. not_refused words request asked none;
+        refusal = λ three. absurd (omega (arith, three, many));
+        fault = λ four. absurd (omega (arith, four, many));
+        on = on;
+      }
 
   -- the script was read from these files, and the run went on with it
   pub script_promise : (script : Script) (status : ℕ) (before now : Outside) (mid : FilesSeen) → IfSome before.files.told (λ names. IsOpening (load_of names request.script most_script_bytes) (Read script))
@@ -91,7 +120,6 @@ module _ (words : List (List ℕ)) (request : Asked) (asked : request_of words �
               fault = s.fault;
               err = s.err;
               is_name = s.is_name;
-              is_one_line = s.is_one_line;
               no_file = λ no_file. rose_before before.files.misses mid.misses now.files.misses misses (s.no_file no_file);
             };
         on =
@@ -146,8 +174,9 @@ module _ (words : List (List ℕ)) (request : Asked) (asked : request_of words �
       refusal_status answer missed over (inr (inr c)) = ap (λ (a : Answer). a.status) c.2
 
       says : (answer : Answer) (before now : Outside) (missed over : Type 0) → IsCaused missed over (Refused answer) → now.err.told ≡ appended before.err.told answer.err
-          → ((now.err.told ≡ appended before.err.told no_script.err) × missed) ⊎ ((now.err.told ≡ appended before.err.told script_too_long.err) × over)
-          ⊎ ((line : ℕ) × (refusal : ScriptKind) × (now.err.told ≡ appended before.err.told (line_answer line refusal).err)) ⊎ ((echo : List ℕ) × (now.err.told ≡ appended before.err.told (echo ++ no_node.err)))
-      says answer before now missed over (inl c) told = inl (told ∙ ap (λ (a : Answer). appended before.err.told a.err) c.0, c.1)
-      says answer before now missed over (inr (inl c)) told = inr (inl (told ∙ ap (λ (a : Answer). appended before.err.told a.err) c.0, c.1))
-      says answer before now missed over (inr (inr c)) told = inr (inr (inl (c.0, c.1, told ∙ ap (λ (a : Answer). appended before.err.told a.err) c.2)))
+          → (EndsWithLine [] no_script.err before.err now.err × missed) ⊎ (EndsWithLine [] script_too_long.err before.err now.err × over)
+          ⊎ ((line : ℕ) × (refusal : ScriptKind) × EndsWithLine [] (line_answer line refusal).err before.err now.err) ⊎ ((echo : List ℕ) × EndsWithLine echo no_node.err before.err now.err)
+      says answer before now missed over (inl c) told = inl (ends_as [] answer.err no_script.err before.err now.err (inl refl) line_no_script (ap (λ (a : Answer). a.err) c.0) told, c.1)
+      says answer before now missed over (inr (inl c)) told = inr (inl (ends_as [] answer.err script_too_long.err before.err now.err (inl refl) line_too_long (ap (λ (a : Answer). a.err) c.0) told, c.1))
+      says answer before now missed over (inr (inr c)) told =
+          inr (inr (inl (c.0, c.1, ends_as [] answer.err (line_answer c.0 c.1).err before.err now.err (inl refl) (line_refusal c.0 c.1) (ap (λ (a : Answer). a.err) c.2) told)))

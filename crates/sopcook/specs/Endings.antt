@@ -11,6 +11,7 @@ use Rattle.sop_model.specs.declared.fault.Fault.TheVariants as variant
 use Rattle.hscript_text.specs.declared.refusal.ScriptKind.{ScriptKind}
 use Rattle.hscript_text.specs.declared.script.Script.{Script}
 use Rattle.hscript_text.specs.Script.{script_of}
+use Rattle.hscript_text.specs.WholeLines.{AreLines}
 use Rattle.sop_cook.specs.declared.cook_end.CookEnd.{CookEnd}
 use Rattle.sop_cook.specs.declared.cook_end.CookEnd.TheVariants as end
 use Rattle.sopcook.specs.declared.answer.Answer.{Answer}
@@ -19,7 +20,7 @@ use Rattle.sopcook.specs.declared.run_end.RunEnd.TheVariants as run_end
 use Rattle.sopcook.specs.declared.script.Opening.{Opening}
 use Rattle.sopcook.specs.declared.script.Opening.TheVariants.{Read, Refused}
 use Rattle.sopcook.specs.Answer.{refused_with, no_script, script_too_long, line_answer, no_node, echoing, node_answer, loaded_answer, loaded_echo, read_line}
-use Rattle.sopcook.specs.Promise.{SinkSeen, Outside, IsStatus, IsAnswered, Delivers, DeliversPrefix, SaysFault, GoesOn}
+use Rattle.sopcook.specs.Promise.{SinkSeen, Outside, IsStatus, IsAnswered, Delivers, DeliversPrefix, EndsWithLine, SaysFault, GoesOn}
 
 -- the script that a text means, or its refusal
 abbrev pub IsRead : Result Script (ℕ × ScriptKind) → Opening → Type 0
@@ -35,6 +36,11 @@ IsOpening load (Refused answer) = (names : Names) (node : List ℕ) → (loaded_
 abbrev pub IsCaused : Type 0 → Type 0 → Opening → Type 0
 IsCaused missed over (Read script) = ⊤
 IsCaused missed over (Refused answer) = ((answer ≡ no_script) × missed) ⊎ ((answer ≡ script_too_long) × over) ⊎ ((line : ℕ) × (refusal : ScriptKind) × (answer ≡ line_answer line refusal))
+
+-- a script that was read echoes whole lines
+abbrev pub EchoesLines : Opening → Type 0
+EchoesLines (Read script) = AreLines script.echoed
+EchoesLines (Refused answer) = ⊤
 
 -- the answer of a fault: one line with the name of a node and the fault
 pub record IsFaultAnswer (fault : Fault) (answer : Answer) : Type 0 where
@@ -77,12 +83,12 @@ pub record EndWithout (e : RunEnd) (status : ℕ) (before now : SinkSeen) : Type
 pub record ScriptEnding (script : Script) (node : List ℕ) (status : ℕ) (before now : Outside) : Type 0 where
   pub is_status : IsStatus status
   pub answered : IsAnswered status → IfSome before.files.told (λ names. Delivers (echoing script.echoed (node_answer names script.net.nodes node)) status before now)
-  pub read_fault : status ≡ 5 → Rose before.files.faults now.files.faults × (now.out.told ≡ before.out.told) × (now.err.told ≡ appended before.err.told (script.echoed ++ read_line))
+  pub read_fault : status ≡ 5 → Rose before.files.faults now.files.faults × (now.out.told ≡ before.out.told) × EndsWithLine script.echoed read_line before.err now.err
   pub write_fault : status ≡ 6 → Rose before.out.faults now.out.faults ⊎ Rose before.err.faults now.err.faults
   pub part : status ≡ 6 → IfSome before.files.told (λ names. DeliversPrefix (echoing script.echoed (node_answer names script.net.nodes node)) before now)
       ⊎ (Rose before.files.faults now.files.faults × (now.out.told ≡ before.out.told) × AppendsPrefix before.err.told now.err.told (script.echoed ++ read_line))
   pub memory : status ≡ 7 → (now.out.told ≡ before.out.told) × (now.err.told ≡ appended before.err.told script.echoed)
   pub no_words : status ≡ 2 → ⊥
-  pub no_node : status ≡ 3 → now.err.told ≡ appended before.err.told (script.echoed ++ no_node.err)
+  pub no_node : status ≡ 3 → EndsWithLine script.echoed no_node.err before.err now.err
   pub fault : status ≡ 4 → SaysFault before now
   pub on : GoesOn before now

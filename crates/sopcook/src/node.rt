@@ -4,7 +4,7 @@ ghost use Rattle.sop_outside.specs.Causes.{Counts, Rose};
 ghost use Rattle.sop_net.specs.Network.{IsLive};
 ghost use Rattle.sop_cook.specs.Visit.{Outcome};
 ghost use Rattle.sop_cook.specs.SerialCook.{cook_of};
-ghost use Rattle.sop_cook.specs.Keeping.{HasNamedNode, IsAtLive, Tells};
+ghost use Rattle.sop_cook.specs.Ends.{HasNamedNode, IsAtLive, Tells};
 ghost use Rattle.sopcook.specs.Loads.{told_files};
 ghost use Rattle.sopcook.specs.Answer.{cook_answer, node_answer};
 ghost use Rattle.sopcook.specs.Endings.{IsEndAnswer, IsNamedAnswer, IsNodeAnswer};

@@ -2,6 +2,7 @@
 ghost use Rattle.std.specs.Prelude.{◌≡◌, ◌≤◌, ◌⊎◌, map, string_bytes};
 ghost use Rattle.sop_outside.specs.Causes.{Rose};
 ghost use Rattle.sop_outside.specs.Told.{appended, AppendsPrefix};
+ghost use Rattle.hscript_text.specs.WholeLines.{AreLines};
 ghost use Rattle.sopcook.specs.Answer.{words_answer};
 ghost use Rattle.sopcook.specs.Promise.{Promise, IsAnswered};
 ghost use Rattle.sopcook.specs.Endings.{Delivery, EndWithout, ScriptEnding};
@@ -63,6 +64,7 @@ fn answer_script<F: Files, O: Sink, E: Sink>(
     out: &mut O,
     err: &mut E,
 ) -> u8
+    requires { AreLines script.now.echoed }
     ensures { ScriptEnding script.now node.now result
         (record {
           files = record { told = F.told files.old; faults = F.faults files.old; misses = F.misses files.old; overs = F.overs files.old };

@@ -4,7 +4,7 @@ ghost use Rattle.sop_outside.specs.Causes.{Counts, Rose};
 ghost use Rattle.sop_outside.specs.Load.{load_of};
 ghost use Rattle.hscript_text.specs.Script.{script_of};
 ghost use Rattle.hscript_text.specs.Limits.{most_script_bytes};
-ghost use Rattle.sopcook.specs.Endings.{IsOpening, IsRead, IsCaused};
+ghost use Rattle.sopcook.specs.Endings.{EchoesLines, IsOpening, IsRead, IsCaused};
 
 use crate::answer::Answer;
 use crate::run_end::RunEnd;
@@ -27,6 +27,7 @@ pub fn open_script<F: Files>(alloc: Global, files: &mut F, script: &str) -> Resu
     ensures misses_later { F.misses files.old ≤ F.misses files.new }
     ensures overs_later { F.overs files.old ≤ F.overs files.new }
     ensures opening { IfOk result (λ opening. IfSome (F.told files.old) (λ names. IsOpening (load_of names script.now most_script_bytes) opening)) }
+    ensures lines { IfOk result EchoesLines }
     ensures caused { IfOk result (IsCaused (Rose (F.misses files.old) (F.misses files.new)) (Rose (F.overs files.old) (F.overs files.new))) }
 {
     match files.load(alloc, script, MOST_SCRIPT_BYTES as u64) {
@@ -42,6 +43,7 @@ pub fn open_script<F: Files>(alloc: Global, files: &mut F, script: &str) -> Resu
 fn read(alloc: Global, bytes: &[u8]) -> Result<Opening, RunEnd>
     requires { length bytes.now ≤ most_script_bytes }
     ensures read { IfOk result (IsRead (script_of bytes.now)) }
+    ensures lines { IfOk result EchoesLines }
     ensures no_load { result ≡ Err RunEnd.Read → ⊥ }
 {
     match read_script(alloc, bytes) {

@@ -1,5 +1,5 @@
 use Rattle.std.proofs.Common.{◌≡◌, sym, subst, arith}
-use Rattle.sop_cook.specs.Keeping.{AreNone}
+use Rattle.sop_cook.specs.Parts.{AreNone}
 use Rattle.sop_cook.proofs.KeptLemmas.{AreNone-nil, AreNone-push}
 use Rattle.sop_cook.proofs.kept.no_geos.Goals as goal
 

@@ -1,4 +1,4 @@
-use Rattle.sop_cook.specs.Keeping.{AreNone}
+use Rattle.sop_cook.specs.Parts.{AreNone}
 use Rattle.sop_cook.proofs.kept.no_geos.Given as goal
 
 abbrev pub invariant-loop : goal.invariant-loop

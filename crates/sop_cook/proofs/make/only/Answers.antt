@@ -1,7 +1,7 @@
 use Rattle.std.proofs.Common.{◌∙◌, sym, subst}
 use Rattle.std.specs.Prelude.{All, IfSome}
 use Rattle.std.proofs.lemmas.List.Elements.{All-head}
-use Rattle.sop_cook.specs.Keeping.{IsReady}
+use Rattle.sop_cook.specs.Ends.{IsReady}
 use Rattle.sop_cook.proofs.make.only.Goals as goal
 
 pub returns-in-Some-Some-clause-ready : goal.returns-in-Some-Some-clause-ready

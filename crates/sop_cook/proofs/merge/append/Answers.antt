@@ -3,7 +3,7 @@ use Rattle.sop_model.specs.declared.geo.Primitive.{Primitive}
 use Rattle.sop_model.specs.Limits.{most_points}
 use Rattle.sop_model.proofs.LimitsLemmas.{within_points, fits_within}
 use Rattle.sop_model.specs.Plain.{plain_append, shifted_prim}
-use Rattle.sop_cook.specs.Keeping.{IsReady}
+use Rattle.sop_cook.specs.Ends.{IsReady}
 use Rattle.sop_cook.proofs.ReadyLemmas.{IsReady-append, small_points}
 use Rattle.sop_cook.proofs.merge.append.Goals as goal
 
@@ -18,7 +18,7 @@ returns-clause-ready c =
     let prims : c.append_prims.new.into ≡ c.args.into.now.prims ++ map (shifted_prim (length c.args.into.now.points)) c.args.from.prims =
     c.in_ok-append_prims.ensures ∙ ap (λ n. c.args.into.now.prims ++ map (shifted_prim n) c.args.from.prims) c.count-before.ensures in
     let made = IsReady-append c.args.into.now c.args.from c.requires.into c.requires.from (sym c.is_over.ensures ∙ c.if-is_over.false) in
-    let same : plain_append c.args.into.now c.args.from ≡ record c.args.into.now { points = c.append_rows.new.into; prims = c.append_prims.new.into } =
+    let same : plain_append c.args.into.now c.args.from ≡ record c.args.into.now { points = c.append.new.self; prims = c.append_prims.new.into } =
     ap (λ (prims : List Primitive). record c.args.into.now { points = c.args.into.now.points ++ c.args.from.points; prims = prims }) (sym prims)
-    ∙ ap (λ points. record c.args.into.now { points = points; prims = c.append_prims.new.into }) (sym c.in_ok-append_rows.ensures) in
+    ∙ ap (λ points. record c.args.into.now { points = points; prims = c.append_prims.new.into }) (sym c.in_ok-append.ensures.ok) in
     subst IsReady same made

@@ -3,7 +3,8 @@ use Rattle.std.specs.Prelude.{IfSome, Err}
 use Rattle.std.proofs.lemmas.Iterator.Adapters.{YieldsList-from_vec}
 use Rattle.std.proofs.lemmas.Iterator.Consumers.{YieldsList-so_far, YieldsList-turn, YieldsList-end}
 use Rattle.sop_cook.specs.Made.{given, merge_geo}
-use Rattle.sop_cook.specs.Keeping.{IsReady, Merged, TellsMade}
+use Rattle.sop_cook.specs.Ends.{IsReady}
+use Rattle.sop_cook.specs.Parts.{Merged, TellsMade}
 use Rattle.sop_cook.proofs.MergeSteps.{merged_all, given-push, given-split, split_at}
 use Rattle.sop_cook.proofs.merge.merge.Goals as goal
 

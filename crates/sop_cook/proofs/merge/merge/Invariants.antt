@@ -1,5 +1,5 @@
 use Rattle.sop_cook.specs.Made.{given}
-use Rattle.sop_cook.specs.Keeping.{Merged}
+use Rattle.sop_cook.specs.Parts.{Merged}
 use Rattle.sop_cook.proofs.merge.merge.Given as goal
 
 abbrev pub invariant-loop-input : goal.invariant-loop-input

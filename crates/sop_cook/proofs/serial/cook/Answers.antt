@@ -9,7 +9,7 @@ use Rattle.sop_cook.specs.Loads.{file_in}
 use Rattle.sop_cook.specs.Visit.{Outcome, failed}
 use Rattle.sop_cook.specs.SerialCook.{cook_of}
 use Rattle.sop_cook.specs.Laws.{IsMissing}
-use Rattle.sop_cook.specs.Keeping.{Tells, IsAtLive, HasNamedNode}
+use Rattle.sop_cook.specs.Ends.{Tells, IsAtLive, HasNamedNode}
 use Rattle.sop_cook.proofs.KeptLemmas.{kept_none}
 use Rattle.sop_cook.proofs.SerialCookLemmas.{failure_live, failure_named, no_file}
 use Rattle.sop_cook.proofs.serial.cook.Goals as goal

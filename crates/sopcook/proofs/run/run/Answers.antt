@@ -1,12 +1,15 @@
-use Rattle.std.proofs.Common.{map, rules, subst}
+use Rattle.std.proofs.Common.{map, rules, subst, refl}
 use Rattle.std.specs.Prelude.{string_bytes, IfSome}
 use Rattle.sop_outside.specs.Causes.{Rose}
 use Rattle.sop_outside.specs.Load.{load_of}
 use Rattle.hscript_text.specs.Limits.{most_script_bytes}
 use Rattle.sopcook.specs.Request.{request_seen}
-use Rattle.sopcook.specs.Endings.{IsOpening, IsCaused}
-use Rattle.sopcook.proofs.PromiseLemmas.{script_promise, refused_promise}
+use Rattle.sopcook.specs.Endings.{EchoesLines, IsOpening, IsCaused}
+use Rattle.sopcook.proofs.PromiseLemmas.{unopened_promise, script_promise, refused_promise}
 use Rattle.sopcook.proofs.run.run.Goals as goal
+
+pub answer_script-requires : goal.answer_script-requires
+answer_script-requires g c = subst EchoesLines c.in-Ok-Read.field-0-is c.in-Ok-Read.ensures.lines
 
 pub returns-in-Ok-Read : goal.returns-in-Ok-Read
 returns-in-Ok-Read g c =
@@ -23,3 +26,7 @@ returns-in-Ok-Refused g c =
     refused_promise (map string_bytes c.args.words.now) (request_seen c.in-Ok.request) c.in-Ok.ensures.ok c.in-Ok-Refused.answer c.deliver.result _ _
     (subst (λ opening. IfSome told (λ names. IsOpening (load_of names c.in-Ok.request.script.now most_script_bytes) opening)) c.in-Ok-Refused.field-0-is c.in-Ok-Refused.ensures.opening)
     (subst (IsCaused missed over) c.in-Ok-Refused.field-0-is c.in-Ok-Refused.ensures.caused) c.deliver.ensures (search rules)
+
+pub returns-in-Err : goal.returns-in-Err
+returns-in-Err g c =
+    unopened_promise (map string_bytes c.args.words.now) (request_seen c.in-Ok.request) c.in-Ok.ensures.ok c.in-Err.end c.deliver_end.result _ _ (search rules) refl c.deliver_end.ensures (search rules)

@@ -8,7 +8,8 @@ use Rattle.sop_net.proofs.UsedLemmas.{within_less}
 use Rattle.sop_cook.specs.Loads.{file_in}
 use Rattle.sop_cook.specs.Made.{made}
 use Rattle.sop_cook.specs.Visit.{ask, ask_all}
-use Rattle.sop_cook.specs.Keeping.{IsReady, TellsMade, GoesOn, EndsSo}
+use Rattle.sop_cook.specs.Ends.{IsReady}
+use Rattle.sop_cook.specs.Parts.{TellsMade, GoesOn, EndsSo}
 use Rattle.sop_cook.specs.Cooking.{nodes_of, gives}
 use Rattle.sop_cook.proofs.KeptLemmas.{kept_taken}
 use Rattle.sop_cook.proofs.CookLemmas.{visit_made, visit_failed, asked_none, asked_more, asked_failed, asked_all}

@@ -1,6 +1,6 @@
 use Rattle.std.proofs.Common.{◌+◌, ◌*◌}
 use Rattle.std.specs.Prelude.{All, IfSome}
-use Rattle.sop_cook.specs.Keeping.{IsReady}
+use Rattle.sop_cook.specs.Ends.{IsReady}
 use Rattle.sop_cook.specs.Cooking.{gives, RunsOn}
 use Rattle.sop_cook.proofs.CookLemmas.{Asked}
 use Rattle.sop_cook.proofs.serial.Cooking.+cook.Given as goal

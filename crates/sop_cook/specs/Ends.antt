@@ -1,0 +1,32 @@
+-- How a cook ends: with exactly what the node gives, a fault at a node that stands, or a geometry that is well made.
+use Rattle.std.specs.Prelude.{◌≡◌, ⊤, List, Result, Ok, Err, IsTrue}
+use Rattle.sop_model.specs.declared.geo.Geo.{Geo}
+use Rattle.sop_model.specs.Faults.{has_named_node}
+use Rattle.sop_model.specs.Geometry.{IsGood, Fits, HasOnlyPosition}
+use Rattle.sop_net.specs.declared.node.Node.{Node}
+use Rattle.sop_net.specs.Network.{IsLive}
+use Rattle.sop_cook.specs.declared.cook_end.CookEnd.{CookEnd}
+use Rattle.sop_cook.specs.declared.cook_end.CookEnd.TheVariants as end
+use Rattle.sop_cook.specs.Visit.{Outcome, failed}
+
+-- the code answers exactly what the node gives, or want of memory
+abbrev pub Tells : Outcome → Result Geo CookEnd → Type 0
+Tells outcome (Ok g) = outcome ≡ Ok g
+Tells outcome (Err (end.Fault x f)) = outcome ≡ Err (failed x f)
+Tells outcome (Err end.Memory) = ⊤
+
+-- a well made geometry within its limits that has `P` alone
+pub record IsReady (g : Geo) : Type 0 where
+  pub good : IsGood g
+  pub fits : Fits g
+  pub position : HasOnlyPosition g
+
+-- the node of a fault stands
+abbrev pub IsAtLive : List Node → CookEnd → Type 0
+IsAtLive nodes (end.Fault x f) = IsLive nodes x
+IsAtLive nodes end.Memory = ⊤
+
+-- the node that a fault names has a name
+abbrev pub HasNamedNode : CookEnd → Type 0
+HasNamedNode (end.Fault x f) = IsTrue (has_named_node f)
+HasNamedNode end.Memory = ⊤
