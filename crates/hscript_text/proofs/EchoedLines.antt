@@ -11,7 +11,7 @@ use Rattle.hscript_text.specs.declared.script.State.{State}
 use Rattle.hscript_text.specs.Commands as commands
 use Rattle.hscript_text.specs.Limits.{most_echoed_bytes}
 use Rattle.hscript_text.specs.Reading.{Reading}
-use Rattle.hscript_text.specs.Script.{start, Step, with_net, with_echoed, line_of_words, echo, after, Outcome, then_run, run, script_made, script_from}
+use Rattle.hscript_text.specs.Script.{start, Step, with_net, line_of_words, echo, after, Outcome, then_run, run, script_made, script_from}
 use Rattle.hscript_text.specs.WholeLines.{AreLines}
 
 abbrev state_of : Network → List ℕ → State

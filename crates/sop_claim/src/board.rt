@@ -1,4 +1,4 @@
-// The ticket board: two words, and passes that step on them.
+//! The ticket board: two words, and passes that step on them.
 ghost use Rattle.std.specs.Prelude.{◌≡◌, ℕ, ◌+◌, ◌<◌, ◌≤◌, [], IfOk, IfSome, IfNone, IsOkAnd};
 ghost use Rattle.sop_claim.specs.Views.{IsHeld, HasLoadedBelow, HasTold, IsAfter, share, newcomer, with_drawn, with_miss, with_faulty, with_loaded, with_done, with_skipped, with_less_room, joined};
 ghost use Rattle.sop_claim.specs.declared.rule.TheConstants.{WHOLE_SHARE};

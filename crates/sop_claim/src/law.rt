@@ -1,4 +1,4 @@
-// What each kind of step of a board is in the machine of claims.
+//! What each kind of step of a board is in the machine of claims.
 ghost use Rattle.std.specs.Prelude.{◌≡◌, ℕ, ◌+◌, ◌<◌, ◌≤◌, ◌++◌, [], ◌∷◌, min, slice_set};
 ghost use Rattle.sop_claim.specs.declared.machine.Event.TheVariants as on;
 ghost use Rattle.sop_claim.specs.declared.rule.View.{View};

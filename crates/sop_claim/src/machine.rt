@@ -1,4 +1,4 @@
-// The machine of claims, one event at a time.
+//! The machine of claims, one event at a time.
 ghost use Rattle.std.specs.Prelude.{◌≡◌, ℕ, ◌<◌, ◌↔◌, List, Some, None, IfOk, IsErr, OnOk, OnErr};
 ghost use Rattle.sop_claim.specs.Claims.{Claims, start, step, after, AtRest, EndsWell};
 

@@ -1,4 +1,4 @@
-// The rule of a board's two words, and what each kind of step tells its pass.
+//! The rule of a board's two words, and what each kind of step tells its pass.
 use atomic_table::{Join, Play, Split, TableRule};
 use std::collections::LinkedList;
 use std::marker::{Brand, PhantomData};
@@ -25,6 +25,7 @@ pub struct View {
     pub loaded: LinkedList<u32>,
 }
 
+/// The rule of a board: what holds of its two words and of what all passes know.
 pub struct Claiming;
 
 impl TableRule<(), View, u32> for Claiming {
@@ -35,6 +36,7 @@ impl TableRule<(), View, u32> for Claiming {
     ghost first = { first_view };
 }
 
+/// A step on word 0 that draws a ticket, or finds nothing.
 pub struct Drawing;
 
 impl Play<(), View> for Drawing {
@@ -43,6 +45,7 @@ impl Play<(), View> for Drawing {
     ghost then = { Draws };
 }
 
+/// A step on word 1 that reports a drawn ticket as faulty.
 pub struct Reporting;
 
 impl Play<(), View> for Reporting {
@@ -51,6 +54,7 @@ impl Play<(), View> for Reporting {
     ghost then = { Reports };
 }
 
+/// A step on word 1 that loads the least reported ticket.
 pub struct Loading;
 
 impl Play<(), View> for Loading {
@@ -70,6 +74,7 @@ impl Settled for Brand {
     ghost ticket = { 0 };
 }
 
+/// A step that settles a drawn ticket as done. It changes no word.
 pub struct Doing<T>(PhantomData<T>);
 
 impl<T: Settled> Play<(), View> for Doing<T> {
@@ -79,6 +84,7 @@ impl<T: Settled> Play<(), View> for Doing<T> {
     ghost then = { Settles with_done T.ticket };
 }
 
+/// A step that settles a drawn ticket as skipped. It changes no word.
 pub struct Skipping<T>(PhantomData<T>);
 
 impl<T: Settled> Play<(), View> for Skipping<T> {
@@ -88,6 +94,7 @@ impl<T: Settled> Play<(), View> for Skipping<T> {
     ghost then = { Settles with_skipped T.ticket };
 }
 
+/// The steps that split a pass in two, join two into one, and load word 0 to weigh the share of what was joined.
 pub struct Sharing;
 
 impl Split<View> for Sharing {

@@ -1,3 +1,4 @@
+//! The machine of claims event by event, and boards that two passes draw from.
 use super::*;
 use std::test::Fail;
 

@@ -1,4 +1,4 @@
-// Why a text has no tokens.
+//! Why a text has no tokens.
 ghost use Rattle.std.specs.Prelude.{◌≡◌};
 ghost use Rattle.vex_lexer.specs.declared.fault.LexFault.TheVariants.{Memory};
 

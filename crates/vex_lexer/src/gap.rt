@@ -1,4 +1,4 @@
-// Blanks and comments.
+//! Blanks and comments.
 ghost use Rattle.std.specs.Prelude.{◌≡◌, false, not};
 ghost use Rattle.std.specs.List.{prefix_len};
 ghost use Rattle.sop_outside.specs.Blanks.{is_blank};
@@ -9,6 +9,7 @@ ghost use Rattle.vex_lexer.specs.Gaps.{is_line_comment, ends_comment, is_block_c
 use crate::lengths::onto;
 use sop_outside::is_blank;
 
+/// Whether a blank begins here.
 pub fn begins_blank(rest: &[u8]) -> bool
     ensures { result ≡ begins is_blank rest.now }
 {
@@ -18,6 +19,7 @@ pub fn begins_blank(rest: &[u8]) -> bool
     }
 }
 
+/// Whether a comment begins here, of either kind, closed or not.
 pub fn begins_comment(rest: &[u8]) -> bool
     ensures { result ≡ begins_comment rest.now }
 {

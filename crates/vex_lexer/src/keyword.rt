@@ -1,4 +1,4 @@
-// Keywords.
+//! Keywords.
 ghost use Rattle.std.specs.Prelude.{◌≡◌};
 ghost use Rattle.vex_lexer.specs.Keywords.{word_of, keyword_of};
 

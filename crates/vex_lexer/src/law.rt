@@ -1,4 +1,4 @@
-// Laws of tokens.
+//! Laws of tokens.
 ghost use Rattle.std.specs.Prelude.{◌≡◌, ℕ, List, Some};
 ghost use Rattle.vex_lexer.specs.declared.keyword.Keyword.{Keyword};
 ghost use Rattle.vex_lexer.specs.declared.operator.Operator.{Operator};

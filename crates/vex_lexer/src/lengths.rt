@@ -1,4 +1,4 @@
-// Lengths of what begins at a place.
+//! Lengths of what begins at a place.
 ghost use Rattle.std.specs.Prelude.{◌≡◌, ◌+◌, ◌^◌, ◌<◌, ◌&&◌, ◌==◌, nat_lt, length};
 ghost use Rattle.vex_lexer.specs.Longest.{onto};
 

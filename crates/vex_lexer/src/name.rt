@@ -1,4 +1,4 @@
-// Names, and names of attributes.
+//! Names, and names of attributes.
 ghost use Rattle.std.specs.Prelude.{◌≡◌};
 ghost use Rattle.std.specs.List.{prefix_len, list_any};
 ghost use Rattle.sop_model.specs.Names.{starts_name, continues_name};

@@ -1,4 +1,4 @@
-// What begins at a place of a text.
+//! What begins at a place of a text.
 ghost use Rattle.vex_lexer.specs.Longest.{IsLongest};
 ghost use Rattle.vex_lexer.specs.Words.{is_token};
 ghost use Rattle.vex_lexer.specs.Openings.{IsOpening};
@@ -27,6 +27,7 @@ fn token_len(rest: &[u8]) -> usize
         .max(operator_len(rest))
 }
 
+/// What begins here: a blank, a comment or the longest token; nothing where a comment is not closed, or no token begins.
 pub fn opening_at(rest: &[u8]) -> Opening
     ensures { IsOpening rest.now result }
 {

@@ -1,4 +1,4 @@
-// Operators, brackets and other marks.
+//! Operators, brackets and other marks.
 ghost use Rattle.std.specs.Prelude.{◌≡◌, bytes_eq};
 ghost use Rattle.std.specs.List.{list_any};
 ghost use Rattle.vex_lexer.specs.Longest.{IsLongest};

@@ -1,4 +1,4 @@
-// Strings, and their values.
+//! Strings, and their values.
 ghost use Rattle.std.specs.Prelude.{◌≡◌, ℕ, ◌++◌, false, List, IfOk, string_bytes};
 ghost use lib.Utf8.{encode};
 ghost use Rattle.vex_lexer.specs.Longest.{IsLongest};

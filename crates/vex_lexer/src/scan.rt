@@ -1,4 +1,4 @@
-// The scanner.
+//! The scanner.
 ghost use Rattle.std.specs.Prelude.{◌≡◌, ◌+◌, ◌<◌, ◌≤◌, IsTrue, IfOk, IfErr, length, take, drop};
 ghost use Rattle.std.specs.List.{filter};
 ghost use Rattle.vex_lexer.specs.Words.{is_line_end, is_token};

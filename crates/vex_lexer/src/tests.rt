@@ -1,3 +1,4 @@
+//! A snippet that is cut into tokens, values of strings, and lines without a token.
 use super::*;
 use std::test::Fail;
 

@@ -1,4 +1,4 @@
-// Tokens.
+//! Tokens.
 use crate::token_kind::TokenKind;
 use sop_outside::Text;
 

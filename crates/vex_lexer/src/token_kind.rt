@@ -1,4 +1,4 @@
-// What a token is.
+//! What a token is.
 ghost use Rattle.std.specs.Prelude.{◌≡◌};
 ghost use Rattle.vex_lexer.specs.TokenKinds.{number_kind, name_kind, kind_of};
 ghost use Rattle.vex_lexer.specs.Keywords.{keyword_of};
