@@ -3,7 +3,9 @@ use Rattle.std.proofs.Common.{◌≡◌, ℕ, zero, suc, ◌+◌, ◌-◌, ◌<�
 use Rattle.std.specs.Prelude.{All, filter, min}
 use Rattle.std.specs.List.{flat_map, range_with_len}
 use Rattle.std.proofs.lemmas.Bool.{cases_Bool, cases_lt, eq-eqb, ne_eqb}
-use Rattle.std.proofs.lemmas.List.{append-nil, length-map, map-append, length-replicate, get_or-map, get_or_at, get_or_append_left, get_or-append_right}
+use Rattle.std.proofs.lemmas.List.{append-nil, length-map, length-take-le, take_all, take_more, map-append, length-replicate, get_or-map, get_or_at, get_or_append_left, get_or-append_right}
+use Rattle.std.proofs.lemmas.List.Concat.{length-flat_map}
+use Rattle.std.proofs.lemmas.List.Sums.{sum_by_more}
 use Rattle.std.proofs.lemmas.List.Elements.{All-nil, All-cons, All-head, All-tail, All-append, All-weaker, All-map, All-replicate}
 use Rattle.sop_model.specs.declared.class.Class.TheVariants.{Prim, Vertex}
 use Rattle.sop_model.specs.declared.geo.Geo.{Geo}
@@ -12,8 +14,8 @@ use Rattle.sop_model.specs.declared.geo.Corner.{Corner}
 use Rattle.sop_model.specs.declared.geo.Primitive.{Primitive}
 use Rattle.sop_model.specs.Limits.{most_prims, most_vertices}
 use Rattle.sop_model.specs.Geometry.{empty_row, rows_of}
-use Rattle.sop_model.specs.Vertices.{size_of, corners_of, ends_of, with_more}
-use Rattle.sop_model.specs.Rows.{default_row, new_corner, points_for, corners_added, vertices_added, picked}
+use Rattle.sop_model.specs.Vertices.{size_of, corners_of, first_vertex_in, ends_of, with_more}
+use Rattle.sop_model.specs.Rows.{no_prim, default_row, new_corner, points_for, corners_added, vertices_added, picked}
 use Rattle.sop_model.proofs.RowLists.{map_agree}
 use Rattle.sop_rows.proofs.ElementOps.{corners_of-append}
 use Rattle.sop_rows.proofs.VertexOps.{new_place, prims_of-vertices_added, vertices_of-longer_prims}
@@ -51,6 +53,23 @@ owners_above n [] = All-nil (λ k. n ≤ k)
 owners_above n (p ∷ ps) =
     let P : ℕ → Type 0 = λ k. n ≤ k in
     All-append P (replicate (size_of p) n) (owners_from (suc n) ps) (All-replicate P (size_of p) n (omega arith)) (All-weaker (λ k. suc n ≤ k) P (λ k lt. omega arith) (owners_from (suc n) ps) (owners_above (suc n) ps))
+
+-- the owners up to one primitive more
+pub owners_more : (prims : List Primitive) (k end many : ℕ) (owners new : List ℕ) → k < length prims → end ≡ first_vertex_in prims (k + 1) → many ≡ length owners → owners ≡ owners_from 0 (take k prims) → new ≡ take end owners ++ replicate (end - many) k
+    → new ≡ owners_from 0 (take (k + 1) prims)
+owners_more prims k end many owners new lt end_is many_is owners_are new_is =
+    let p = get_or prims k no_prim in
+    let front = take k prims in
+    let long = ap length owners_are ∙ length-owners 0 front ∙ length-flat_map (λ p. p.corners) front in
+    let more = sum_by_more size_of prims k no_prim lt in
+    let size : end - many ≡ size_of p = omega arith in
+    let place : k ≡ 0 + length front = omega (arith, length-take-le k prims (omega arith)) in
+    let whole = take_all end owners (omega arith) in
+    new_is ∙ ap (λ xs. xs ++ replicate (end - many) k) (whole ∙ owners_are) ∙ ap (λ n. owners_from 0 front ++ replicate n k) size ∙ ap (λ n. owners_from 0 front ++ replicate (size_of p) n) place
+    ∙ ap (λ xs. owners_from 0 front ++ xs) (sym (append-nil (replicate (size_of p) (0 + length front)))) ∙ sym (owners-append 0 front (p ∷ [])) ∙ ap (owners_from 0) (sym (take_more prims k no_prim lt))
+
+pub owners_all : (prims : List Primitive) (k n : ℕ) (owners : List ℕ) → n ≤ k → n ≡ length prims → owners ≡ owners_from 0 (take k prims) → owners ≡ owners_from 0 prims
+owners_all prims k n owners le long are = are ∙ ap (owners_from 0) (take_all k prims (omega arith))
 
 places_none : (i n : ℕ) (keys : List ℕ) → All (λ k. eqb k i ≡ false) keys → places_of i n keys ≡ []
 places_none i n [] none = refl
@@ -106,7 +125,7 @@ module _ {X : Type 0} (d : X) where
       ]
 
 -- what is read of picked items, where the default is read alike
-read_alike : {X Y : Type 0} (f : X → Y) (xs : List X) (d : X) (k : ℕ) → f (get_or xs k d) ≡ get_or (map f xs) k (f d)
+pub read_alike : {X Y : Type 0} (f : X → Y) (xs : List X) (d : X) (k : ℕ) → f (get_or xs k d) ≡ get_or (map f xs) k (f d)
 read_alike f [] d k = refl
 read_alike f (x ∷ xs) d zero = refl
 read_alike f (x ∷ xs) d (suc k) = read_alike f xs d k
@@ -306,3 +325,29 @@ module _ (s : ShapeLists) (adds : List (ℕ × ℕ)) (cs : List Bool) (es rs key
       ∙ ap (λ ks. picked (rows_of g Vertex ++ default_row g.vertex ∷ []) empty_row (map (λ n. min n many) (grouped groups ks))) (sym keys_are)
       ∙ ap (λ ns. picked (rows_of g Vertex ++ default_row g.vertex ∷ []) empty_row (map (λ n. min n many) ns)) (sym order_is)
       ∙ ap (picked (rows_of g Vertex ++ default_row g.vertex ∷ []) empty_row) (sym rows_are)
+
+-- WHAT IS GROUPED
+
+module _ (s : ShapeLists) (is : IsShape s) (adds : List (ℕ × ℕ)) (keys : List ℕ) (groups : ℕ) (keys_are : keys ≡ keys_with is.geo adds) (groups_are : groups ≡ length s.closed) (below : All (λ a. a.0 < length s.closed) adds) where
+  many_groups : length is.geo.prims ≡ groups
+  many_groups = omega (arith, prims_counted is.geo s is.has)
+
+  adds_below : All (λ a. a.0 < length is.geo.prims) adds
+  adds_below = subst (λ n. All (λ a. a.0 < n) adds) (prims_counted is.geo s is.has) below
+
+  pub added_below : All (λ k. k < groups) keys
+  added_below = subst (All (λ k. k < groups)) (sym keys_are) (subst (λ n. All (λ k. k < n) (keys_with is.geo adds)) many_groups (keys_below is.geo adds adds_below))
+
+  pub added_many : length keys ≡ length s.refers + length adds
+  added_many = ap length keys_are ∙ length-keys is.geo adds ∙ ap (λ n. n + length adds) (sym (vertices_counted is.geo s is.has))
+
+  pub added_counted : length (grouped groups keys) ≡ length keys
+  added_counted = ap (λ n. length (grouped n keys)) (sym many_groups) ∙ ap (λ ks. length (grouped (length is.geo.prims) ks)) keys_are ∙ grouped_counted is.geo adds adds_below ∙ sym (ap length keys_are)
+
+  pub added_within : (order points : List ℕ) → order ≡ grouped groups keys → points ≡ s.refers ++ map (λ a. a.1) adds → All (λ n. n < length points) order
+  added_within order points order_is points_are =
+      let P : ℕ → Type 0 = λ n. n < length points in
+      let long = ap length points_are ∙ length-append s.refers (map (λ a. a.1) adds) in
+      let seconds = length-map adds (λ (a : ℕ × ℕ). a.1) in
+      let many = added_many in
+      subst (All P) (sym order_is) (All-weaker (λ n. n < length keys) P (λ n lt. omega arith) (grouped groups keys) (grouped_within groups keys))

@@ -3,3 +3,5 @@ pub mod GrowLemmas
 pub mod MakeLemmas
 pub mod SortLemmas
 pub mod AddLemmas
+pub mod OrderLemmas
+pub mod CountLemmas

@@ -1,5 +1,5 @@
 -- What stays of a geometry, told by flags, and the numbers of what stays.
-use Rattle.std.specs.Prelude.{◌≡◌, ℕ, ◌+◌, ◌<◌, ◌≤◌, Bool, not, ◌&&◌, ◌||◌, ◌==◌, nat_lt, List, map, length, slice_index_or}
+use Rattle.std.specs.Prelude.{◌≡◌, ℕ, ◌+◌, ◌<◌, ◌≤◌, Bool, not, ◌&&◌, ◌||◌, ◌==◌, nat_lt, List, [], ◌∷◌, map, length, slice_index_or}
 use Rattle.std.specs.List.{range_with_len}
 use Rattle.sop_model.specs.declared.class.Class.{Class}
 use Rattle.sop_model.specs.declared.geo.Geo.{Geo}
@@ -27,8 +27,13 @@ abbrev pub is_touched : List Bool → List ℕ → ℕ → Bool
 is_touched flags refers point = some_from (λ vertex. is_marked flags vertex && (number_at refers vertex == point)) 0 (length refers)
 
 -- whether a point stays, by the points that are given up and those that are used
-abbrev pub point_test : List Bool → List Bool → List Bool → ℕ → Bool
-point_test marked given_up used point = not (is_marked marked point || (is_marked given_up point && not (is_marked used point)))
+abbrev pub point_test : List Bool → (ℕ → Bool) → (ℕ → Bool) → ℕ → Bool
+point_test marked given_up used point = not (is_marked marked point || (given_up point && not (used point)))
+
+-- for ends one after the other whether some number from the one before, or from the first, passes
+abbrev pub grows : (ℕ → Bool) → ℕ → List ℕ → List Bool
+grows test before [] = []
+grows test before (end ∷ ends) = nat_lt (how_many test before) (how_many test end) ∷ grows test end ends
 
 -- a test of so many numbers, as flags
 abbrev pub flags_of : (ℕ → Bool) → ℕ → List Bool

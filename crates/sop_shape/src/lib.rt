@@ -2,8 +2,12 @@
 //! A contract speaks of every geometry that has the shape: what a read answers of it, and which shape it has after a call.
 #![tactic(auto)]
 
+mod adding;
+mod grouping;
 mod growing;
+mod lists;
 mod making;
+mod ordering;
 mod shape;
 
 pub use shape::Shape;
