@@ -1,4 +1,4 @@
--- A cook that runs.
+-- A cook that runs. For private contracts.
 use Rattle.std.specs.Prelude.{◌≡◌, ℕ, List}
 use Rattle.sop_net.specs.declared.node.Node.{Node}
 use Rattle.sop_cook.specs.declared.serial.Cooking.{Cooking}
