@@ -1,2 +1,3 @@
 pub mod NameLemmas
 mod ListLemmas
+pub mod BitLemmas

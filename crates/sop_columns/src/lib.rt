@@ -1,6 +1,8 @@
 //! Columns of values and of flags over counted pages, and the numbers of the texts and lists that their cells name.
 #![tactic(auto)]
 
+mod bit_column;
 mod names;
 
+pub use bit_column::BitColumn;
 pub use names::Names;

@@ -1,0 +1,13 @@
+use Rattle.std.proofs.Common.{◌∙◌, get_or, arith}
+use Rattle.sop_columns.proofs.BitLemmas.{joined_more, shifts_on, flag_beside}
+use Rattle.sop_columns.proofs.bit_column.BitColumn.pick_into.Goals as goal
+
+pub loop-k-preserved : goal.loop-k-preserved
+loop-k-preserved c = record {
+  flags = joined_more _ _ _ _ _ _ c.loop-k.k (omega arith) c.loop-k.invariant.flags
+      (c.in_ok-set.ensures.here ∙ c.get-on.ensures
+      ∙ flag_beside c.args.shelf.now c.loop-k.shelf _ _ c.args.self.now c.loop-k.invariant.shifts c.requires.bits (λ x. let b = c.requires.bits.covered.each x in omega arith) (get_or c.args.numbers.now c.loop-k.k 0))
+      c.in_ok-set.ensures.others;
+  bits = c.set.ensures.bits;
+  shifts = shifts_on c.args.shelf.now c.loop-k.shelf c.set.new.shelf _ _ _ c.loop-k.invariant.shifts c.set.ensures.shifts;
+}
