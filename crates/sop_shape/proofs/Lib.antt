@@ -5,3 +5,5 @@ pub mod SortLemmas
 pub mod AddLemmas
 pub mod OrderLemmas
 pub mod CountLemmas
+pub mod StayLemmas
+pub mod LeftLemmas

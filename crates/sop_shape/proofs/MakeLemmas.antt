@@ -1,9 +1,9 @@
 -- Lists that are made item by item from what is read of a geometry.
-use Rattle.std.proofs.Common.{◌≡◌, ℕ, ◌+◌, ◌<◌, ◌≤◌, Bool, List, [], ◌∷◌, ◌++◌, length, map, get_or, set, take, drop, refl, ap, sym, ◌∙◌, subst, arith, zero, suc, append_assoc}
+use Rattle.std.proofs.Common.{◌≡◌, ℕ, ◌+◌, ◌<◌, ◌≤◌, Bool, List, [], ◌∷◌, ◌++◌, length, map, get_or, take, refl, ap, sym, ◌∙◌, subst, arith, zero, suc}
 use Rattle.std.specs.Prelude.{slice_get, Option, Some}
 use Rattle.std.specs.Option.{option_map}
 use Rattle.std.proofs.lemmas.Option.{slice_get-get_or}
-use Rattle.std.proofs.lemmas.List.{take_all, take_more, map-append, get_or_default, get_or_read, get_or_at, set_at, drop_more, length-map, length-take-le}
+use Rattle.std.proofs.lemmas.List.{take_all, take_more, map-append, get_or_default, get_or_read, length-map}
 use Rattle.std.proofs.lemmas.List.Sums.{sum_by_more}
 use Rattle.sop_model.specs.declared.geo.Geo.{Geo}
 use Rattle.sop_model.specs.Geometry.{IsReadable}
@@ -69,14 +69,3 @@ pub pick_more : {X : Type 0} (xs : List X) (places : List ℕ) (k : ℕ) (x d : 
 pick_more xs places k x d made new lt within read made_is new_is =
     let same : x ≡ get_or xs (get_or places k 0) d = get_or_read xs (get_or places k 0) x within read d in
     new_is ∙ ap (λ ys. ys ++ x ∷ []) made_is ∙ ap (λ y. picked xs d (take k places) ++ y ∷ []) same ∙ sym (map-append (λ i. get_or xs i d) (take k places) (get_or places k 0 ∷ [])) ∙ ap (picked xs d) (sym (take_more places k 0 lt))
-
--- one number more changed in place
-pub changed_more : (f : ℕ → ℕ) (xs now new : List ℕ) (k y : ℕ) → k < length xs → now ≡ map f (take k xs) ++ drop k xs → y ≡ f (get_or now k 0) → new ≡ set now k y → new ≡ map f (take (k + 1) xs) ++ drop (k + 1) xs
-changed_more f xs now new k y lt now_is y_is new_is =
-    let front = map f (take k xs) in
-    let x = get_or xs k 0 in
-    let split : now ≡ front ++ x ∷ drop (k + 1) xs = now_is ∙ ap (λ ys. front ++ ys) (drop_more xs k 0 lt) in
-    let long : length front ≡ k = length-map (take k xs) f ∙ length-take-le k xs (omega arith) in
-    let read : get_or now k 0 ≡ x = ap (λ ys. get_or ys k 0) split ∙ get_or_at front x (drop (k + 1) xs) 0 k long in
-    new_is ∙ ap (λ ys. set ys k y) split ∙ set_at front x (drop (k + 1) xs) y k long ∙ ap (λ z. front ++ z ∷ drop (k + 1) xs) (y_is ∙ ap f read)
-    ∙ sym (append_assoc front (f x ∷ []) (drop (k + 1) xs)) ∙ ap (λ ys. ys ++ drop (k + 1) xs) (sym (map-append f (take k xs) (x ∷ [])) ∙ ap (map f) (sym (take_more xs k 0 lt)))

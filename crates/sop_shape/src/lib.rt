@@ -5,9 +5,12 @@
 mod adding;
 mod grouping;
 mod growing;
+mod keeping;
 mod lists;
 mod making;
 mod ordering;
 mod shape;
+mod staying;
 
+pub use keeping::Left;
 pub use shape::Shape;

@@ -156,8 +156,8 @@ impl Shape {
         *self.closed.allocator()
     }
 
-    /// A law: it is a shape.
-    pub(crate) fn known(&self)
+    /// A law: some geometry within the limits of primitives and vertices has this shape.
+    pub fn known(&self)
         ensures { IsShape self.now }
     {
         let _ends = self.ends.len();
