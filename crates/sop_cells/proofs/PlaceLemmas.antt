@@ -18,12 +18,17 @@ pub blocks_own : (s : ShelfPages) (ids : List ℕ) → blocks s (map Own ids) �
 blocks_own s [] = refl
 blocks_own s (id ∷ ids) = ap (λ xs. cells s.own id ∷ xs) (blocks_own s ids)
 
+based_own : (base : Store) (ids : List ℕ) → AreBased base (map Own ids)
+based_own base [] = tt
+based_own base (id ∷ ids) = based_own base ids
+
 -- own pages were put under these ids
 pub put_own : (old new : ShelfPages) (before after : List Place) (pages : List (List Cell)) (ids : List ℕ) → after ≡ before ++ map Own ids → new.base ≡ old.base → Moves old.own new.own [] ids → ((id : ℕ) → 1 ≤ times id ids → count old.own id ≡ 0) → map (cells new.own) ids ≡ pages → IsPutBehind old new before pages after
 put_own old new before after pages ids e b m f c = record {
   fresh = map Own ids;
   after_is = e;
   fresh_cells = blocks_own new ids ∙ c;
+  fresh_based = based_own new.base ids;
   shifts = record { base = b; moves = subst (λ (xs : List ℕ). Moves old.own new.own [] xs) (sym (own_of ids)) m };
   apart = λ id h. f id (let q = ap (times id) (own_of ids) in omega arith);
 }

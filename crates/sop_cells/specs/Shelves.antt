@@ -70,6 +70,7 @@ pub record IsPutBehind (old new : ShelfPages) (before : List Place) (pages : Lis
   pub fresh : List Place
   pub after_is : after ≡ before ++ fresh
   pub fresh_cells : blocks new fresh ≡ pages
+  pub fresh_based : AreBased new.base fresh
   pub shifts : Shifts old new [] fresh
   pub apart : (id : ℕ) → 1 ≤ times id (own fresh) → count old.own id ≡ 0
 

@@ -6,7 +6,7 @@ ghost use Rattle.sop_pages.specs.Pages.{AreCounted, count, live_pages};
 ghost use Rattle.sop_pages.specs.declared.page.TheConstants.{MOST_CELLS};
 ghost use Rattle.sop_cells.specs.declared.place.Place.{Place};
 ghost use Rattle.sop_cells.specs.declared.place.Place.TheVariants.{Own};
-ghost use Rattle.sop_cells.specs.Places.{own};
+ghost use Rattle.sop_cells.specs.Places.{own, AreBased};
 ghost use Rattle.sop_cells.specs.Shelves.{IsHere, count_at, cells_at, blocks, Shifts, IsPutBehind};
 
 use crate::place::{Place, PlaceList};
@@ -92,6 +92,7 @@ impl<'b> Shelf<'b> {
         ensures shifts { IfOk result (λ places. Shifts self.old self.new [] places) }
         ensures fresh { IfOk result (λ places. (id : ℕ) → 1 ≤ times id (own places) → count self.old.own id ≡ 0) }
         ensures cells { IfOk result (λ places. blocks self.new places ≡ pages) }
+        ensures based { IfOk result (λ places. AreBased self.new.base places) }
         ensures pages { OnOk result (live_pages self.new.own ≡ live_pages self.old.own + length pages) }
         ensures err { IfErr result (λ e. (self.new ≡ self.old) × (e.0 ≡ pages)) }
     {
@@ -133,7 +134,8 @@ impl<'b> Shelf<'b> {
         ensures cells { IfOk result (λ new. cells_at self.new new ≡ slice_set (cells_at self.old place) i cell) }
         ensures single { count_at self.old place ≡ 1 → result ≡ Ok place }
         ensures alone { IfOk result (λ new. count_at self.new new ≡ 1) }
-        ensures pages { OnOk result (live_pages self.new.own ≡ live_pages self.old.own + (if count_at self.old place == 1 then 0 else 1)) }
+        ensures pages { OnOk result (live_pages self.new.own
+            ≡ live_pages self.old.own + (if count_at self.old place == 1 then 0 else 1)) }
         ensures err { OnErr result (self.new ≡ self.old) }
     {
         match place {
@@ -157,7 +159,8 @@ impl<'b> Shelf<'b> {
         ensures cells { IfOk result (λ new. cells_at self.new new ≡ cells_at self.old place ++ more.now) }
         ensures single { count_at self.old place ≡ 1 → IfOk result (λ new. new ≡ place) }
         ensures alone { IfOk result (λ new. count_at self.new new ≡ 1) }
-        ensures pages { OnOk result (live_pages self.new.own ≡ live_pages self.old.own + (if count_at self.old place == 1 then 0 else 1)) }
+        ensures pages { OnOk result (live_pages self.new.own
+            ≡ live_pages self.old.own + (if count_at self.old place == 1 then 0 else 1)) }
         ensures err { OnErr result (self.new ≡ self.old) }
     {
         match place {
