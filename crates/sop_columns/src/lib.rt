@@ -2,7 +2,9 @@
 #![tactic(auto)]
 
 mod bit_column;
+mod column;
 mod names;
 
 pub use bit_column::BitColumn;
+pub use column::Column;
 pub use names::Names;

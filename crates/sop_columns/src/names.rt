@@ -3,6 +3,7 @@ ghost use Rattle.std.specs.Prelude.{◌≡◌, [], ◌<◌, length, slice_index_
 ghost use Rattle.sop_model.specs.Values.{value_seen, default_of};
 ghost use Rattle.sop_model.specs.declared.value.Value.TheVariants as value;
 ghost use Rattle.sop_columns.specs.Names.{value_of, IsNumbered, IsThere, Grows};
+ghost use Rattle.sop_columns.specs.Fitted.{fitted_to};
 ghost use Rattle.sop_columns.specs.Lists.{value_listed};
 
 use indexmap::IndexSet;
@@ -96,6 +97,22 @@ impl Names {
         ensures known { IsThere self.old (default_of kind) → self.new ≡ self.old }
     {
         let value = kind.default_value(self.alloc);
+        self.cell(&value)
+    }
+
+    /// The cell that stands for the value of `cell` under a head of this kind: as the value is put there, else the kind's
+    /// default. `Err` comes for want of memory alone; the table may have grown then too.
+    #[tactic(auto, using(crate::proofs::NameLemmas::grows_none))]
+    pub fn fitted(&mut self, cell: Cell, kind: Kind) -> Result<Cell, AllocError>
+        requires { IsNumbered self.old cell }
+        ensures value { IfOk result (λ new. value_of self.new new ≡ fitted_to kind (value_of self.old cell)) }
+        ensures numbered { IfOk result (λ new. IsNumbered self.new new) }
+        ensures grows { Grows self.old self.new }
+    {
+        let Some(value) = self.value(cell).put(kind) else {
+            return self.default_cell(kind);
+        };
+        let value = value.to_value(self.alloc)?;
         self.cell(&value)
     }
 
