@@ -1,6 +1,7 @@
 -- Flags in words, in pages and in blocks of pages: what is written, and what a step of the shelf is for them.
 use Rattle.std.proofs.Common.{◌≡◌, ◌≢◌, ℕ, zero, suc, false, replicate, ◌+◌, ◌/◌, ◌%◌, ◌<◌, ◌≤◌, ◌==◌, Bool, List, [], ◌∷◌, ◌++◌, length, set, get_or, take, refl, ap, sym, ◌∙◌, subst, arith, inl, inr}
-use Rattle.std.specs.Prelude.{Option, Some, None, slice_get, slice_index_or, slice_set}
+use Rattle.std.specs.Prelude.{Option, Some, None, slice_get, slice_index_or, slice_set, if◌then◌else◌}
+use Rattle.std.proofs.lemmas.Bool.Decides.{nat_tests}
 use Rattle.std.proofs.lemmas.Nat.Bits.{bit_at-zero}
 use Rattle.std.proofs.lemmas.List.{get_or-set_same, get_or-set_other}
 use Rattle.sop_pages.specs.declared.cell.Cell.{Cell}
@@ -342,3 +343,13 @@ joined_same now before was len more other n j b m = record {
 
 pub joined_none : (now : ℕ → Bool) (len : ℕ) (more : ℕ → Bool) → ((k : ℕ) → len ≤ k → now k ≡ false) → AreJoined now now len more 0
 joined_none now len more off = record { before_are = λ k h. refl; more_are = λ k h. absurd (omega arith); beyond_are = λ k h. off k (omega arith) }
+
+one_time : (a b : ℕ) → (if a == b then 1 else 0) ≤ 1
+one_time a b = grind (arith, nat_tests)
+
+-- no more places than blocks
+pub bits_few : (x : ℕ) (cs : List (Option Place)) → times x (own_bits cs) ≤ length cs
+bits_few x [] = omega arith
+bits_few x (None ∷ cs) = let r = bits_few x cs in omega arith
+bits_few x (Some (Own id) ∷ cs) = let r = bits_few x cs in let o = one_time id x in omega arith
+bits_few x (Some (Base id) ∷ cs) = let r = bits_few x cs in omega arith

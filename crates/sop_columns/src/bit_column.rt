@@ -1,5 +1,5 @@
 //! Columns of flags.
-ghost use Rattle.std.specs.Prelude.{◌≡◌, ◌≢◌, ℕ, ◌∷◌, ◌++◌, ◌+◌, ◌-◌, ◌/◌, ◌%◌, ◌^◌, ◌<◌, ◌≤◌, [], true, false, length, replicate, set, Some, None, slice_get, slice_index_or, vec_len, IfOk, OnOk, OnErr};
+ghost use Rattle.std.specs.Prelude.{◌≡◌, ◌≢◌, ℕ, ◌∷◌, ◌++◌, ◌+◌, ◌-◌, ◌*◌, ◌/◌, ◌%◌, ◌^◌, ◌<◌, ◌≤◌, [], true, false, length, replicate, set, Some, None, slice_get, slice_index_or, vec_len, IfOk, OnOk, OnErr};
 ghost use Rattle.sop_pages.specs.declared.page.TheConstants.{MOST_CELLS};
 ghost use Rattle.sop_pages.specs.declared.cell.Cell.TheVariants as cell;
 ghost use Rattle.sop_pages.specs.Pages.{count, live_pages};
@@ -68,6 +68,7 @@ impl BitColumn {
         ensures bits { AreBits shelf.new self.new }
         ensures shifts { Shifts shelf.old shelf.new (placed self.old) (placed self.new) }
         ensures pages { live_pages shelf.new.own ≤ live_pages shelf.old.own + 1 }
+        ensures few { (n : ℕ) → length self.old ≤ n → k / 131072 < n → length self.new ≤ n }
         ensures same { flag shelf.old self.old k ≡ on → (shelf.new ≡ shelf.old) × (self.new ≡ self.old) }
         ensures err { OnErr result ((shelf.new ≡ shelf.old) × (self.new ≡ self.old)) }
     {
@@ -127,6 +128,7 @@ impl BitColumn {
         requires few { length numbers.now < 2 ^ 32 }
         ensures flags { IfOk result (λ c. (k : ℕ) → k < length numbers.now → flag shelf.new c k ≡ flag shelf.old self.now (slice_index_or numbers.now k 0)) }
         ensures beyond { IfOk result (λ c. (k : ℕ) → length numbers.now ≤ k → flag shelf.new c k ≡ false) }
+        ensures few { IfOk result (λ c. (n : ℕ) → length numbers.now ≤ 131072 * n → length c ≤ n) }
         ensures bits { IfOk result (AreBits shelf.new) }
         ensures shifts { IfOk result (λ c. Shifts shelf.old shelf.new [] (placed c)) }
         ensures err { OnErr result (Shifts shelf.old shelf.new [] []) }
@@ -155,6 +157,7 @@ impl BitColumn {
         requires fits { len + more_len < 2 ^ 32 }
         requires room { (id : ℕ) → count shelf.old.own id + times id (own_bits self.now) < 2 ^ 128 }
         ensures flags { IfOk result (λ c. AreJoined (flag shelf.new c) (flag shelf.old self.now) len (flag shelf.old more.now) more_len) }
+        ensures few { IfOk result (λ c. (n : ℕ) → length self.now ≤ n → len + more_len ≤ 131072 * n → length c ≤ n) }
         ensures bits { IfOk result (AreBits shelf.new) }
         ensures shifts { IfOk result (λ c. Shifts shelf.old shelf.new [] (placed c)) }
         ensures err { OnErr result (Shifts shelf.old shelf.new [] []) }
@@ -179,6 +182,7 @@ impl BitColumn {
         requires empty { made.old ≡ [] }
         requires few { length numbers.now < 2 ^ 32 }
         ensures flags { OnOk result (AreJoined (flag shelf.new made.new) (λ _. false) 0 (λ k. flag shelf.old self.now (slice_index_or numbers.now k 0)) (length numbers.now)) }
+        ensures few { (n : ℕ) → length numbers.now ≤ 131072 * n → length made.new ≤ n }
         ensures bits { AreBits shelf.new made.new }
         ensures shifts { Shifts shelf.old shelf.new [] (placed made.new) }
     {
@@ -203,6 +207,7 @@ impl BitColumn {
         requires off { (k : ℕ) → len ≤ k → flag shelf.old made.old k ≡ false }
         requires fits { len + more_len < 2 ^ 32 }
         ensures flags { OnOk result (AreJoined (flag shelf.new made.new) (flag shelf.old made.old) len (flag shelf.old self.now) more_len) }
+        ensures few { (n : ℕ) → length made.old ≤ n → len + more_len ≤ 131072 * n → length made.new ≤ n }
         ensures bits { AreBits shelf.new made.new }
         ensures shifts { Shifts shelf.old shelf.new (placed made.old) (placed made.new) }
     {

@@ -1,4 +1,4 @@
-use Rattle.std.proofs.Common.{◌≡◌, ◌∙◌, ℕ, List, ap, arith}
+use Rattle.std.proofs.Common.{◌≡◌, ◌∙◌, ℕ, List, ap, arith, length}
 use Rattle.std.specs.Prelude.{Option}
 use Rattle.sop_cells.specs.declared.place.Place.{Place}
 use Rattle.sop_columns.specs.Bits.{flag}
@@ -19,3 +19,6 @@ join_into-requires-clause-off c = λ k h. held (goal.at.join_into-requires-claus
 
 pub returns-clause-flags : goal.returns-clause-flags
 returns-clause-flags c = let p = (goal.at.returns-clause-flags c).After-hold in joined_same _ _ _ _ _ _ _ c.in_default.ensures.flags (held p) (held_more p)
+
+pub returns-clause-few : goal.returns-clause-few
+returns-clause-few c = λ n a b. let e = ap (λ (cs : List (Option Place)). length cs) c.in_ok-made.ensures in c.join_into.ensures.few n (omega arith) b
