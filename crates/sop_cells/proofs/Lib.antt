@@ -7,3 +7,4 @@ pub mod LaidLemmas
 pub mod CutLemmas
 pub mod PartLemmas
 pub mod JoinLemmas
+pub mod FrameLemmas

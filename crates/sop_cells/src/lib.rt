@@ -9,3 +9,6 @@ mod shelf;
 pub use cells::Cells;
 pub use place::{Place, PlaceList};
 pub use shelf::Shelf;
+
+#[cfg(test)]
+mod tests;
