@@ -1,5 +1,5 @@
 -- The shape of a geometry with further vertices, by the groups of its vertices and of what is added.
-use Rattle.std.proofs.Common.{◌≡◌, ℕ, zero, suc, ◌+◌, ◌-◌, ◌<◌, ◌≤◌, Bool, true, false, cond, eqb, List, [], ◌∷◌, ◌++◌, length, map, get_or, take, replicate, refl, ap, sym, ◌∙◌, subst, arith, inl, inr, length-append, append_assoc}
+use Rattle.std.proofs.Common.{◌≡◌, ℕ, zero, suc, ◌+◌, ◌-◌, ◌<◌, ◌≤◌, Bool, false, cond, eqb, List, [], ◌∷◌, ◌++◌, length, map, get_or, take, replicate, refl, ap, sym, ◌∙◌, subst, arith, inl, inr, length-append, append_assoc}
 use Rattle.std.specs.Prelude.{All, filter, min}
 use Rattle.std.specs.List.{flat_map, range_with_len}
 use Rattle.std.proofs.lemmas.Bool.{cases_Bool, cases_lt, eq-eqb, ne_eqb}
@@ -12,14 +12,14 @@ use Rattle.sop_model.specs.declared.geo.Geo.{Geo}
 use Rattle.sop_model.specs.declared.geo.Row.{Row}
 use Rattle.sop_model.specs.declared.geo.Corner.{Corner}
 use Rattle.sop_model.specs.declared.geo.Primitive.{Primitive}
-use Rattle.sop_model.specs.Limits.{most_prims, most_vertices}
+use Rattle.sop_model.specs.Limits.{most_vertices}
 use Rattle.sop_model.specs.Geometry.{empty_row, rows_of}
 use Rattle.sop_model.specs.Vertices.{size_of, corners_of, first_vertex_in, ends_of, with_more}
 use Rattle.sop_model.specs.Rows.{no_prim, default_row, new_corner, points_for, corners_added, vertices_added, picked}
 use Rattle.sop_model.proofs.RowLists.{map_agree}
 use Rattle.sop_rows.proofs.ElementOps.{corners_of-append}
 use Rattle.sop_rows.proofs.VertexOps.{new_place, prims_of-vertices_added, vertices_of-longer_prims}
-use Rattle.sop_shape.specs.Shapes.{ShapeLists, shape_with, shape_of, HasShape, IsShape}
+use Rattle.sop_shape.specs.Shapes.{ShapeLists, shape_with, HasShape, IsShape}
 use Rattle.sop_shape.specs.Groups.{places_of, grouped, group_ends, owners_from}
 use Rattle.sop_shape.proofs.ReadLemmas.{closed_is, refers_is, prims_counted, vertices_counted}
 use Rattle.sop_shape.proofs.SortLemmas.{places-here, places-other, places-append, length-grouped-more}
@@ -67,9 +67,6 @@ owners_more prims k end many owners new lt end_is many_is owners_are new_is =
     let whole = take_all end owners (omega arith) in
     new_is ∙ ap (λ xs. xs ++ replicate (end - many) k) (whole ∙ owners_are) ∙ ap (λ n. owners_from 0 front ++ replicate n k) size ∙ ap (λ n. owners_from 0 front ++ replicate (size_of p) n) place
     ∙ ap (λ xs. owners_from 0 front ++ xs) (sym (append-nil (replicate (size_of p) (0 + length front)))) ∙ sym (owners-append 0 front (p ∷ [])) ∙ ap (owners_from 0) (sym (take_more prims k no_prim lt))
-
-pub owners_all : (prims : List Primitive) (k n : ℕ) (owners : List ℕ) → n ≤ k → n ≡ length prims → owners ≡ owners_from 0 (take k prims) → owners ≡ owners_from 0 prims
-owners_all prims k n owners le long are = are ∙ ap (owners_from 0) (take_all k prims (omega arith))
 
 places_none : (i n : ℕ) (keys : List ℕ) → All (λ k. eqb k i ≡ false) keys → places_of i n keys ≡ []
 places_none i n [] none = refl

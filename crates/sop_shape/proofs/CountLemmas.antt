@@ -1,5 +1,5 @@
 -- Flags that are counted, and the places of those that are set.
-use Rattle.std.proofs.Common.{◌≡◌, ℕ, zero, suc, ◌+◌, ◌-◌, ◌<◌, ◌≤◌, Bool, true, false, cond, List, [], ◌∷◌, ◌++◌, length, map, get_or, take, refl, ap, sym, ◌∙◌, subst, arith, inl, inr, length-append, append_assoc}
+use Rattle.std.proofs.Common.{◌≡◌, ℕ, zero, suc, ◌+◌, ◌≤◌, Bool, false, cond, List, [], ◌∷◌, ◌++◌, length, map, get_or, refl, ap, sym, ◌∙◌, arith, inl, inr, length-append, append_assoc}
 use Rattle.std.specs.List.{range_with_len}
 use Rattle.std.proofs.lemmas.Bool.{cases_Bool, cases_lt}
 use Rattle.std.proofs.lemmas.List.{get_or_at, get_or_append_left, get_or_push, length_push}
@@ -7,7 +7,7 @@ use Rattle.std.proofs.lemmas.List.FromFn.{length-range_with_len}
 use Rattle.sop_model.specs.Rows.{picked}
 use Rattle.sop_model.specs.Sweep.{is_marked, kept, how_many}
 use Rattle.sop_rows.proofs.KeptLemmas.{kept-yes, kept-no, kept-append}
-use Rattle.sop_shape.specs.Tests.{number_at, AreCounts}
+use Rattle.sop_shape.specs.Tests.{number_at}
 use Rattle.sop_shape.proofs.SortLemmas.{range_more}
 
 -- COUNTS
@@ -26,9 +26,6 @@ pub record AreCountsTo (flags : List Bool) (k : ℕ) (counts : List ℕ) : Type 
   pub long : length counts ≡ k + 1
   pub each : (i : ℕ) → i ≤ k → number_at counts i ≡ how_many (is_marked flags) i
 
-pub counts_none : (flags : List Bool) → AreCountsTo flags 0 (0 ∷ [])
-counts_none flags = record { long = refl; each = λ i le. let z : i ≡ 0 = omega arith in ap (λ k. get_or (0 ∷ []) k 0) z ∙ sym (ap (how_many (is_marked flags)) z) }
-
 pub count_next : (flags : List Bool) (k count more : ℕ) → more ≡ cond (get_or flags k false) 1 0 → count ≡ how_many (is_marked flags) k → count + more ≡ how_many (is_marked flags) (k + 1)
 count_next flags k count more more_is count_is =
     let place : suc k ≡ k + 1 = omega arith in
@@ -45,9 +42,6 @@ counts_more flags k next counts new next_is new_is are = record {
       | inl before ↦ get_or_append_left counts (next ∷ []) 0 i (omega (arith, are.long)) ∙ are.each i (omega arith)
       | inr last ↦ let same : i ≡ k + 1 = omega arith in get_or_push counts next 0 i (are.long ∙ sym same) ∙ next_is ∙ ap (how_many (is_marked flags)) (sym same)
     ]
-
-pub counts_all : (flags : List Bool) (k : ℕ) (counts : List ℕ) → k ≡ length flags → AreCountsTo flags k counts → AreCounts flags counts
-counts_all flags k counts k_is are = record { long = are.long ∙ ap (λ n. n + 1) k_is; each = λ i le. are.each i (omega arith) }
 
 -- THE PLACES OF FLAGS
 

@@ -1,9 +1,8 @@
 -- The shape of a geometry with a primitive more, and of one behind another.
-use Rattle.std.proofs.Common.{◌≡◌, ℕ, ◌+◌, ◌<◌, ◌≤◌, Bool, List, [], ◌∷◌, ◌++◌, length, map, get_or, take, refl, ap, sym, ◌∙◌, subst, arith, length-append}
+use Rattle.std.proofs.Common.{◌≡◌, ℕ, ◌+◌, ◌<◌, ◌≤◌, Bool, List, [], ◌∷◌, ◌++◌, length, map, refl, ap, sym, ◌∙◌, arith, length-append}
 use Rattle.std.specs.Prelude.{sum_by}
 use Rattle.std.proofs.lemmas.List.{length-map, map-append}
 use Rattle.std.proofs.lemmas.List.Concat.{length-flat_map}
-use Rattle.std.proofs.lemmas.List.Sums.{sum_by-cons}
 use Rattle.sop_model.specs.declared.class.Class.TheVariants.{Point}
 use Rattle.sop_model.specs.declared.geo.Geo.{Geo}
 use Rattle.sop_model.specs.declared.geo.Primitive.{Primitive}
@@ -17,7 +16,7 @@ use Rattle.sop_rows.proofs.ElementOps.{corners_of-append}
 use Rattle.sop_rows.proofs.OrderOps.{sizes_of-renumbered}
 use Rattle.sop_rows.proofs.PartLemmas.{closed_of-prim_added, refers_of-prim_added, closed_of-renumbered, refers_of-renumbered}
 use Rattle.sop_rows.proofs.AppendedParts.{closed_of-appended, sizes_of-appended, refers_of-appended}
-use Rattle.sop_shape.specs.Shapes.{ShapeLists, shape_with, shape_of, HasShape, IsShape}
+use Rattle.sop_shape.specs.Shapes.{ShapeLists, shape_with, HasShape, IsShape}
 use Rattle.sop_shape.proofs.ReadLemmas.{closed_is, ends_is, refers_is, vertices_counted}
 
 -- A PRIMITIVE MORE

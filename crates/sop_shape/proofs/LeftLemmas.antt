@@ -1,16 +1,16 @@
 -- The shape of what is left of a geometry, by the flags of what stays.
-use Rattle.std.proofs.Common.{◌≡◌, ℕ, zero, suc, ◌+◌, ◌-◌, ◌<◌, ◌≤◌, Bool, true, false, cond, eqb, ltb, List, [], ◌∷◌, ◌++◌, length, map, get_or, refl, ap, sym, ◌∙◌, subst, arith, inl, inr}
+use Rattle.std.proofs.Common.{◌≡◌, ℕ, zero, suc, ◌+◌, ◌<◌, ◌≤◌, Bool, false, cond, ltb, List, [], ◌∷◌, length, map, get_or, refl, ap, sym, ◌∙◌, subst, arith, inl, inr}
 use Rattle.std.specs.Prelude.{All}
 use Rattle.std.specs.List.{range_with_len}
 use Rattle.std.proofs.lemmas.Bool.{cases_Bool, ltb-false}
-use Rattle.std.proofs.lemmas.List.{length-map, get_or-map, get_or_default}
+use Rattle.std.proofs.lemmas.List.{length-map}
 use Rattle.std.proofs.lemmas.List.FromFn.{length-range_with_len, get_or-range_with_len}
 use Rattle.std.proofs.lemmas.List.Elements.{All-weaker, All-map, All-get_or}
 use Rattle.sop_model.specs.declared.class.Class.TheVariants.{Prim, Point, Vertex}
 use Rattle.sop_model.specs.declared.geo.Geo.{Geo}
 use Rattle.sop_model.specs.declared.geo.Primitive.{Primitive}
 use Rattle.sop_model.specs.Geometry.{count_of}
-use Rattle.sop_model.specs.Vertices.{size_of, corners_of, ends_of}
+use Rattle.sop_model.specs.Vertices.{size_of, ends_of}
 use Rattle.sop_model.specs.Rows.{picked}
 use Rattle.sop_model.specs.Sweep.{MarkSet, is_marked, stays, kept, how_many, swept}
 use Rattle.sop_model.proofs.RowLists.{map_agree}
@@ -19,7 +19,7 @@ use Rattle.sop_rows.specs.Parts.{how_many_from, sizes_kept}
 use Rattle.sop_rows.proofs.KeptLemmas.{kept-yes, kept-no, All-kept, how_many-le, length-kept-le}
 use Rattle.sop_rows.proofs.PartLemmas.{closed_of-swept, sizes_of-swept, refers_of-swept}
 use Rattle.sop_shape.specs.Shapes.{ShapeLists, shape_with, HasShape, IsShape}
-use Rattle.sop_shape.specs.Tests.{number_at, numbers_left, flags_of, AreCounts}
+use Rattle.sop_shape.specs.Tests.{numbers_left, flags_of, AreCounts}
 use Rattle.sop_shape.proofs.ReadLemmas.{closed_is, ends_is, refers_is, prims_counted, vertices_counted, ends_counted, count_prims, count_vertices}
 use Rattle.sop_shape.proofs.CountLemmas.{kept_picked}
 use Rattle.sop_shape.proofs.StayLemmas.{kept_agree, how_many_agree, flag_is, length-flags, prim_stays_by_ends}

@@ -1,9 +1,9 @@
 -- Lists that are made item by item from what is read of a geometry.
-use Rattle.std.proofs.Common.{◌≡◌, ℕ, ◌+◌, ◌<◌, ◌≤◌, Bool, List, [], ◌∷◌, ◌++◌, length, map, get_or, take, refl, ap, sym, ◌∙◌, subst, arith, zero, suc}
-use Rattle.std.specs.Prelude.{slice_get, Option, Some}
+use Rattle.std.proofs.Common.{◌≡◌, ℕ, ◌+◌, ◌<◌, ◌≤◌, Bool, List, [], ◌∷◌, ◌++◌, length, map, get_or, take, refl, ap, sym, ◌∙◌, arith, zero, suc}
+use Rattle.std.specs.Prelude.{slice_get, Some}
 use Rattle.std.specs.Option.{option_map}
 use Rattle.std.proofs.lemmas.Option.{slice_get-get_or}
-use Rattle.std.proofs.lemmas.List.{take_all, take_more, map-append, get_or_default, get_or_read, length-map}
+use Rattle.std.proofs.lemmas.List.{take_more, map-append, get_or_default, get_or_read, length-map}
 use Rattle.std.proofs.lemmas.List.Sums.{sum_by_more}
 use Rattle.sop_model.specs.declared.geo.Geo.{Geo}
 use Rattle.sop_model.specs.Geometry.{IsReadable}
@@ -23,9 +23,6 @@ module _ {X Y : Type 0} (f : X → Y) (xs : List X) (i : ℕ) where
       let same : f (get_or xs i d) ≡ y = cc in
       new_is ∙ ap (λ ys. ys ++ y ∷ []) made_is ∙ ap (λ z. map f (take i xs) ++ z ∷ []) (sym same) ∙ sym (map-append f (take i xs) (get_or xs i d ∷ [])) ∙ ap (map f) (sym (take_more xs i d lt))
 
-pub made_all : {X Y : Type 0} (f : X → Y) (xs : List X) (i n : ℕ) (made : List Y) → i ≡ n → n ≡ length xs → made ≡ map f (take i xs) → made ≡ map f xs
-made_all f xs i n made at long is = is ∙ ap (map f) (take_all i xs (omega arith))
-
 -- one end more
 pub end_more : (prims : List Primitive) (i first size : ℕ) (made new : List ℕ) → i < length prims → first ≡ first_vertex_in prims i → option_map size_of (slice_get prims i) ≡ Some size → made ≡ ends_of 0 (take i prims) → new ≡ made ++ (first + size) ∷ [] → new ≡ ends_of 0 (take (i + 1) prims)
 end_more prims i first size made new lt first_is read made_is new_is =
@@ -38,9 +35,6 @@ end_more prims i first size made new lt first_is read made_is new_is =
     get_or_same [] k lt = absurd (omega arith)
     get_or_same (q ∷ ps) zero lt = refl
     get_or_same (q ∷ ps) (suc k) lt = get_or_default ps k no_prim (get_or ps k no_prim) (omega arith)
-
-pub ends_all : (prims : List Primitive) (i n : ℕ) (made : List ℕ) → i ≡ n → n ≡ length prims → made ≡ ends_of 0 (take i prims) → made ≡ ends_of 0 prims
-ends_all prims i n made at long is = is ∙ ap (ends_of 0) (take_all i prims (omega arith))
 
 pub end_fits : (prims : List Primitive) (i first size : ℕ) → i < length prims → first ≡ first_vertex_in prims i → option_map size_of (slice_get prims i) ≡ Some size → first + size ≤ length (corners_of prims)
 end_fits prims i first size lt first_is read =

@@ -1,7 +1,7 @@
 -- The shape of a geometry in another order, and the places where numbers stand in an order.
-use Rattle.std.proofs.Common.{◌≡◌, ℕ, zero, suc, ◌+◌, ◌-◌, ◌<◌, ◌≤◌, Bool, true, false, not, cond, eqb, List, [], ◌∷◌, ◌++◌, length, map, get_or, set, take, drop, refl, ap, sym, ◌∙◌, subst, arith, inl, inr, length-append, append_assoc}
+use Rattle.std.proofs.Common.{◌≡◌, ℕ, zero, suc, ◌+◌, ◌-◌, ◌<◌, ◌≤◌, Bool, false, not, cond, eqb, List, [], ◌∷◌, ◌++◌, length, map, get_or, set, take, drop, refl, ap, sym, ◌∙◌, subst, arith, inl, inr, length-append, append_assoc}
 use Rattle.std.specs.Prelude.{All, sum_by}
-use Rattle.std.specs.List.{flat_map, range_with_len, position_or_len}
+use Rattle.std.specs.List.{range_with_len}
 use Rattle.std.proofs.lemmas.Bool.{cases_Bool, eqb-true, eqb-false}
 use Rattle.std.proofs.lemmas.List.{append-nil, length-map, map-append, length-set, take_more, take-append-drop, drop_more, get_or-set_same, get_or-set_other}
 use Rattle.std.proofs.lemmas.List.Concat.{flat_map-append}
@@ -19,7 +19,7 @@ use Rattle.sop_model.proofs.VerticesLemmas.{ends_of-push, first_vertex_in-le}
 use Rattle.sop_rows.specs.Parts.{vertices_with}
 use Rattle.sop_rows.proofs.OrderOps.{length-order, order_within, place_in-lt, sizes_of-renumbered, count_of-reordered}
 use Rattle.sop_rows.proofs.PartLemmas.{closed_of-renumbered, refers_of-renumbered, closed_of-reordered, refers_of-reordered}
-use Rattle.sop_shape.specs.Shapes.{ShapeLists, shape_with, shape_of, HasShape, IsShape}
+use Rattle.sop_shape.specs.Shapes.{ShapeLists, shape_with, HasShape, IsShape}
 use Rattle.sop_shape.specs.Tests.{number_at}
 use Rattle.sop_shape.proofs.ReadLemmas.{closed_is, ends_is, refers_is, count_prims, prims_counted, vertices_counted}
 use Rattle.sop_shape.proofs.GrowLemmas.{ends_by_sizes}
@@ -71,9 +71,6 @@ module _ (perm : List ℕ) (is : IsOrderOf (length perm) perm) where
 
   pub inverted : (places : List ℕ) → IsInverting perm 0 places → (n : ℕ) → n < length perm → number_at places n ≡ place_in perm n
   inverted places inverting n lt = let near = place_in-lt (length perm) perm is n lt in inverting.each n (omega arith) ∙ omega arith
-
-pub inverting_none : (perm places : List ℕ) (left : ℕ) → left ≡ length perm → length places ≡ length perm → IsInverting perm left places
-inverting_none perm places left left_is long = record { within = omega arith; long = long; each = λ n near. absurd (omega arith) }
 
 -- VERTICES WITH THEIR PRIMITIVES
 

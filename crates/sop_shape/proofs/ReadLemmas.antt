@@ -1,19 +1,17 @@
 -- What the lists of a shape say of a geometry that has it.
-use Rattle.std.proofs.Common.{◌≡◌, ℕ, zero, suc, ◌+◌, ◌-◌, ◌<◌, ◌≤◌, leb, Bool, true, false, List, [], ◌∷◌, length, map, take, get_or, Option, Some, refl, ap, sym, ◌∙◌, subst, arith}
-use Rattle.std.specs.Prelude.{sum_by, slice_get}
-use Rattle.std.specs.List.Sorted.{IsPartitionPoint}
+use Rattle.std.proofs.Common.{◌≡◌, ℕ, suc, ◌+◌, ◌-◌, ◌<◌, ◌≤◌, Bool, List, [], length, map, get_or, Some, ap, sym, ◌∙◌, subst, arith}
+use Rattle.std.specs.Prelude.{slice_get}
 use Rattle.std.specs.Option.{option_map}
 use Rattle.std.proofs.lemmas.Option.{slice_get-get_or}
-use Rattle.std.proofs.lemmas.List.{length-map, get_or-map, get_or_read}
-use Rattle.std.proofs.lemmas.List.Sums.{sum_by_more, sum_by-take-le}
+use Rattle.std.proofs.lemmas.List.{length-map}
+use Rattle.std.proofs.lemmas.List.Sums.{sum_by_more}
 use Rattle.sop_model.specs.declared.class.Class.TheVariants.{Prim, Vertex}
 use Rattle.sop_model.specs.declared.geo.Geo.{Geo}
 use Rattle.sop_model.specs.Geometry.{empty_geo, count_of}
 use Rattle.sop_model.specs.Rows.{no_prim}
 use Rattle.sop_model.specs.Vertices.{size_of, corners_of, first_vertex_in, ends_of}
-use Rattle.sop_model.proofs.VerticesLemmas.{length-ends_of, get_or-ends_of, end_before, prim_in-le, first_vertex_in-le}
-use Rattle.sop_model.proofs.RowLists.{slice_get-map}
-use Rattle.sop_shape.specs.Shapes.{ShapeLists, shape_with, shape_of, HasShape, IsShape}
+use Rattle.sop_model.proofs.VerticesLemmas.{length-ends_of, get_or-ends_of, end_before, first_vertex_in-le}
+use Rattle.sop_shape.specs.Shapes.{ShapeLists, shape_with, HasShape, IsShape}
 
 module _ (g : Geo) (s : ShapeLists) (has : HasShape g s) where
   pub closed_is : s.closed ≡ map (λ p. p.closed) g.prims
@@ -40,14 +38,6 @@ module _ (g : Geo) (s : ShapeLists) (has : HasShape g s) where
   pub count_vertices : length s.refers ≡ count_of g Vertex
   count_vertices = vertices_counted ∙ sym (length-map (corners_of g.prims) (λ c. c.row))
 
-  pub closed_at : (i : ℕ) (x : Bool) → i < length s.closed → x ≡ get_or s.closed i x → option_map (λ p. p.closed) (slice_get g.prims i) ≡ Some x
-  closed_at i x lt read =
-      sym (slice_get-map (λ p. p.closed) g.prims i) ∙ ap (λ xs. slice_get xs i) (sym closed_is) ∙ slice_get-get_or s.closed i x lt ∙ ap Some (sym read)
-
-  pub point_at : (i x : ℕ) → i < length s.refers → x ≡ get_or s.refers i x → option_map (λ c. c.point) (slice_get (corners_of g.prims) i) ≡ Some x
-  point_at i x lt read =
-      sym (slice_get-map (λ c. c.point) (corners_of g.prims) i) ∙ ap (λ xs. slice_get xs i) (sym refers_is) ∙ slice_get-get_or s.refers i x lt ∙ ap Some (sym read)
-
   pub end_at : (i x : ℕ) → i < length s.closed → x ≡ get_or s.ends i x → x ≡ first_vertex_in g.prims (i + 1)
   end_at i x lt read =
       let place : suc i ≡ i + 1 = omega arith in
@@ -68,10 +58,6 @@ module _ (g : Geo) (s : ShapeLists) (has : HasShape g s) where
       let size : size_of (get_or g.prims i no_prim) ≡ end - first = omega (arith, size_more i lt) in
       ap (option_map size_of) (slice_get-get_or g.prims i no_prim (omega (arith, prims_counted))) ∙ ap Some size
 
-  -- no primitive ends behind the last vertex
-  pub end_within : (i end : ℕ) → end ≡ first_vertex_in g.prims i → end ≤ length s.refers
-  end_within i end is = omega (arith, first_vertex_in-le g.prims i, vertices_counted)
-
 -- each primitive ends somewhere
 pub ends_as_many : (s : ShapeLists) → IsShape s → length s.ends ≡ length s.closed
 ends_as_many s is = ends_counted is.geo s is.has ∙ sym (prims_counted is.geo s is.has)
@@ -88,9 +74,6 @@ empty_is closed ends refers no_closed no_ends no_refers = record {
 pub same_is : (s : ShapeLists) (closed : List Bool) (ends refers : List ℕ) → IsShape s → closed ≡ s.closed → ends ≡ s.ends → refers ≡ s.refers → IsShape (shape_with closed ends refers)
 same_is s closed ends refers is closed_same ends_same refers_same =
     subst IsShape (λ j. shape_with (sym closed_same j) (sym ends_same j) (sym refers_same j)) is
-
-pub same_lists_of : (s : ShapeLists) (closed : List Bool) (ends refers : List ℕ) → closed ≡ s.closed → ends ≡ s.ends → refers ≡ s.refers → shape_with closed ends refers ≡ s
-same_lists_of s closed ends refers closed_same ends_same refers_same j = shape_with (closed_same j) (ends_same j) (refers_same j)
 
 -- and none behind the last vertex
 pub ends_within : (s : ShapeLists) → IsShape s → (k d : ℕ) → k < length s.ends → get_or s.ends k d ≤ length s.refers

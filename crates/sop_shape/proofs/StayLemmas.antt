@@ -1,26 +1,25 @@
 -- Tests by flags and the tests of the sweep, one number more of each list that a pass makes, and which primitives stay.
-use Rattle.std.proofs.Common.{◌≡◌, ℕ, zero, suc, ◌+◌, ◌-◌, ◌<◌, ◌≤◌, Bool, true, false, not, cond, ◌&&◌, ◌||◌, eqb, ltb, List, [], ◌∷◌, ◌++◌, length, map, get_or, set, take, replicate, refl, ap, sym, ◌∙◌, subst, arith, inl, inr, length-append}
+use Rattle.std.proofs.Common.{◌≡◌, ℕ, zero, suc, ◌+◌, ◌-◌, ◌<◌, ◌≤◌, Bool, true, false, not, cond, ◌&&◌, ◌||◌, eqb, ltb, List, [], ◌∷◌, ◌++◌, length, map, get_or, take, replicate, refl, ap, sym, ◌∙◌, subst, arith, inl, inr, length-append}
 use Rattle.std.specs.Prelude.{All, sum_by}
 use Rattle.std.specs.List.{range_with_len}
-use Rattle.std.proofs.lemmas.Bool.{cases_Bool, cases_lt, or_left, or_right, or_parts, eqb-true, eqb-false, eq-eqb, lt-ltb, le-ltb, ltb-false, not_from_true, false≢true}
-use Rattle.std.proofs.lemmas.List.{length-map, length-replicate, take_more, take-take, take_all, get_or-map, get_or_default, get_or_past, get_or-replicate, get_or_append_left, get_or-append_right, get_or-set_same, get_or-set_other, map-append}
-use Rattle.std.proofs.lemmas.List.FromFn.{length-range_with_len, length-map-range_with_len, get_or-map-range_with_len, map-range_with_len_more, fill_by_all}
+use Rattle.std.proofs.lemmas.Bool.{cases_Bool, cases_lt, or_left, or_right, lt-ltb, le-ltb, not_from_true}
+use Rattle.std.proofs.lemmas.List.{length-replicate, take-take, get_or_default, get_or-replicate, get_or_append_left, get_or-append_right}
+use Rattle.std.proofs.lemmas.List.FromFn.{length-map-range_with_len, get_or-map-range_with_len, map-range_with_len_more, fill_by_all}
 use Rattle.std.proofs.lemmas.List.Sums.{sum_by_more, sum_by-take-le}
-use Rattle.std.proofs.lemmas.List.Elements.{All-nil, All-cons, All-head, All-tail, All-weaker}
+use Rattle.std.proofs.lemmas.List.Elements.{All-nil, All-cons, All-weaker}
 use Rattle.sop_model.specs.declared.class.Class.TheVariants.{Prim, Point, Vertex}
 use Rattle.sop_model.specs.declared.geo.Geo.{Geo}
 use Rattle.sop_model.specs.declared.geo.Primitive.{Primitive}
-use Rattle.sop_model.specs.Geometry.{count_of}
 use Rattle.sop_model.specs.Vertices.{size_of, corners_of, first_vertex_in, prim_in, ends_of}
 use Rattle.sop_model.specs.Rows.{no_prim}
-use Rattle.sop_model.specs.Sweep.{MarkSet, is_marked, some_from, point_under, vertex_goes, keeps_vertex, prim_goes, is_given_up, is_used, point_goes, stays, kept, how_many}
+use Rattle.sop_model.specs.Sweep.{MarkSet, is_marked, some_from, point_under, vertex_goes, keeps_vertex, is_given_up, is_used, stays, kept, how_many}
 use Rattle.sop_model.proofs.RowLists.{map_agree}
 use Rattle.sop_model.proofs.VerticesLemmas.{get_or-ends_of, length-ends_of, prim_in-from_ends, first_vertex_in-le}
-use Rattle.sop_rows.proofs.KeptLemmas.{how_many-le, how_many-lt, none_passes}
-use Rattle.sop_shape.specs.Shapes.{ShapeLists, shape_with, HasShape, IsShape}
+use Rattle.sop_rows.proofs.KeptLemmas.{how_many-lt, none_passes}
+use Rattle.sop_shape.specs.Shapes.{ShapeLists, HasShape, IsShape}
 use Rattle.sop_shape.specs.Groups.{owners_from}
 use Rattle.sop_shape.specs.Tests.{number_at, vertex_test, gives_up, is_touched, point_test, grows, flags_of, AreCounts, AreTouched}
-use Rattle.sop_shape.proofs.ReadLemmas.{ends_is, refers_is, prims_counted, vertices_counted, ends_counted, count_vertices, ends_within}
+use Rattle.sop_shape.proofs.ReadLemmas.{ends_is, refers_is, prims_counted, vertices_counted, ends_counted, count_vertices}
 use Rattle.sop_shape.proofs.AddLemmas.{length-owners, owners_below, read_alike}
 
 -- TESTS THAT AGREE
@@ -61,9 +60,6 @@ length-flags t n = length-map-range_with_len t 0 n
 pub flags_more : (t : ℕ → Bool) (k : ℕ) (b : Bool) (made new : List Bool) → b ≡ t k → made ≡ flags_of t k → new ≡ made ++ b ∷ [] → new ≡ flags_of t (k + 1)
 flags_more t k b made new b_is made_is new_is = new_is ∙ ap (λ xs. xs ++ b ∷ []) made_is ∙ ap (λ c. flags_of t k ++ c ∷ []) b_is ∙ sym (map-range_with_len_more t 0 k k (omega arith))
 
-pub flags_all : (t : ℕ → Bool) (k n : ℕ) (made : List Bool) → k ≡ n → made ≡ flags_of t k → made ≡ flags_of t n
-flags_all t k n made same is = is ∙ ap (flags_of t) same
-
 -- TOUCHED POINTS
 
 some_more : (t : ℕ → Bool) (n k : ℕ) → some_from t n (k + 1) ≡ (some_from t n k || t (n + k))
@@ -86,9 +82,6 @@ pub record IsTouching (flags : List Bool) (refers : List ℕ) (points k : ℕ) (
   pub long : length made ≡ points
   pub each : (point : ℕ) → point < points → is_marked made point ≡ some_from (λ vertex. is_marked flags vertex && eqb (number_at refers vertex) point) 0 k
 
-pub touching_none : (flags : List Bool) (refers : List ℕ) (points : ℕ) → IsTouching flags refers points 0 (replicate points false)
-touching_none flags refers points = record { long = length-replicate points false; each = λ point lt. get_or-replicate points point false false lt }
-
 pub touching_more : (flags : List Bool) (refers : List ℕ) (points k i : ℕ) (on : Bool) (made new : List Bool) → i ≡ number_at refers k → on ≡ is_marked flags k → length new ≡ length made
     → ((point : ℕ) → is_marked new point ≡ (is_marked made point || (on && eqb i point))) → IsTouching flags refers points k made → IsTouching flags refers points (k + 1) new
 touching_more flags refers points k i on made new i_is on_is long each touching = record {
@@ -98,12 +91,6 @@ touching_more flags refers points k i on made new i_is on_is long each touching 
       let place : k ≡ 0 + k = omega arith in
       each point ∙ ap (λ b. b || (on && eqb i point)) (touching.each point lt) ∙ ap (λ b. some_from test 0 k || (b && eqb i point)) on_is ∙ ap (λ n. some_from test 0 k || (is_marked flags k && eqb n point)) i_is
       ∙ ap (λ m. some_from test 0 k || test m) place ∙ sym (some_more test 0 k);
-}
-
-pub touching_all : (flags : List Bool) (refers : List ℕ) (points k : ℕ) (made : List Bool) → k ≡ length refers → IsTouching flags refers points k made → AreTouched flags refers points made
-touching_all flags refers points k made k_is touching = record {
-  long = touching.long;
-  each = λ point lt. touching.each point lt ∙ ap (some_from (λ vertex. is_marked flags vertex && eqb (number_at refers vertex) point) 0) k_is;
 }
 
 -- a flag that is read at a point

@@ -21,7 +21,8 @@ impl Shape {
         requires prims { All (λ a. a.0 < length self.now.closed) adds.now }
         requires vertices { length self.now.refers + length adds.now ≤ most_vertices }
         ensures shape { IfOk result (λ made. (g : Geo) → HasShape g self.now → HasShape (vertices_added g adds.now) made.0) }
-        ensures rows { IfOk result (λ made. (g : Geo) → HasShape g self.now → rows_of (vertices_added g adds.now) Vertex ≡ picked (rows_of g Vertex ++ default_row g.vertex ∷ []) empty_row made.1.items) }
+        ensures rows { IfOk result (λ made. (g : Geo) → HasShape g self.now
+            → rows_of (vertices_added g adds.now) Vertex ≡ picked (rows_of g Vertex ++ default_row g.vertex ∷ []) empty_row made.1.items) }
     {
         self.known();
         let alloc = self.allocator();

@@ -34,7 +34,8 @@ impl Shape {
         requires prims { length self.old.closed + length other.now.closed ≤ most_prims }
         requires vertices { length self.old.refers + length other.now.refers ≤ most_vertices }
         requires points { All (λ n. points + n < 2 ^ 32) other.now.refers }
-        ensures ok { OnOk result ((a b : Geo) → IsSound a → IsSound b → HasShape a self.old → HasShape b other.now → count_of a Point ≡ points → HasShape (appended a b) self.new) }
+        ensures ok { OnOk result ((a b : Geo) → IsSound a → IsSound b → HasShape a self.old → HasShape b other.now
+            → count_of a Point ≡ points → HasShape (appended a b) self.new) }
         ensures err { OnErr result (self.new ≡ self.old) }
     {
         other.known();

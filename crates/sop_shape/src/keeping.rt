@@ -33,8 +33,10 @@ impl Shape {
         requires with_points { length marks.now.with_points ≡ length self.now.closed }
         requires refers { All (λ n. n < points) self.now.refers }
         ensures shape { IfOk result (λ left. (g : Geo) → HasShape g self.now → HasShape (swept g marks.now) left.shape) }
-        ensures points { IfOk result (λ left. (g : Geo) → HasShape g self.now → count_of g Point ≡ points → left.points.items ≡ numbers_left g marks.now Point) }
-        ensures vertices { IfOk result (λ left. (g : Geo) → HasShape g self.now → left.vertices.items ≡ numbers_left g marks.now Vertex) }
+        ensures points { IfOk result (λ left. (g : Geo) → HasShape g self.now → count_of g Point ≡ points
+            → left.points.items ≡ numbers_left g marks.now Point) }
+        ensures vertices { IfOk result (λ left. (g : Geo) → HasShape g self.now
+            → left.vertices.items ≡ numbers_left g marks.now Vertex) }
         ensures prims { IfOk result (λ left. (g : Geo) → HasShape g self.now → left.prims.items ≡ numbers_left g marks.now Prim) }
     {
         self.known();

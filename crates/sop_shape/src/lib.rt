@@ -14,3 +14,6 @@ mod staying;
 
 pub use keeping::Left;
 pub use shape::Shape;
+
+#[cfg(test)]
+mod tests;

@@ -58,8 +58,10 @@ struct Moved {
 
 fn moved_vertices(shape: &Shape, perm: &[u32]) -> Result<Moved, AllocError>
     requires { IsOrderOf (length shape.now.closed) perm.now }
-    ensures ends { IfOk result (λ made. (g : Geo) → HasShape g shape.now → made.ends.items ≡ ends_of 0 (picked g.prims no_prim perm.now)) }
-    ensures vertices { IfOk result (λ made. (g : Geo) → HasShape g shape.now → made.vertices.items ≡ vertices_with g.prims perm.now) }
+    ensures ends { IfOk result (λ made. (g : Geo) → HasShape g shape.now
+        → made.ends.items ≡ ends_of 0 (picked g.prims no_prim perm.now)) }
+    ensures vertices { IfOk result (λ made. (g : Geo) → HasShape g shape.now
+        → made.vertices.items ≡ vertices_with g.prims perm.now) }
 {
     shape.known();
     let alloc = shape.allocator();

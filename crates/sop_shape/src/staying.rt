@@ -25,9 +25,12 @@ pub(crate) fn what_stays(shape: &Shape, points: u32, marks: &Marks) -> Result<St
     requires prims { length marks.now.prims ≡ length shape.now.closed }
     requires with_points { length marks.now.with_points ≡ length shape.now.closed }
     requires refers { All (λ n. n < points) shape.now.refers }
-    ensures points { IfOk result (λ made. (g : Geo) → HasShape g shape.now → made.points.items ≡ flags_of (stays g marks.now Point) points) }
-    ensures vertices { IfOk result (λ made. (g : Geo) → HasShape g shape.now → made.vertices.items ≡ flags_of (stays g marks.now Vertex) (length shape.now.refers)) }
-    ensures prims { IfOk result (λ made. (g : Geo) → HasShape g shape.now → made.prims.items ≡ flags_of (stays g marks.now Prim) (length shape.now.closed)) }
+    ensures points { IfOk result (λ made. (g : Geo) → HasShape g shape.now
+        → made.points.items ≡ flags_of (stays g marks.now Point) points) }
+    ensures vertices { IfOk result (λ made. (g : Geo) → HasShape g shape.now
+        → made.vertices.items ≡ flags_of (stays g marks.now Vertex) (length shape.now.refers)) }
+    ensures prims { IfOk result (λ made. (g : Geo) → HasShape g shape.now
+        → made.prims.items ≡ flags_of (stays g marks.now Prim) (length shape.now.closed)) }
 {
     shape.known();
     let alloc = shape.allocator();
@@ -113,7 +116,9 @@ fn points_left(
     requires giving_up { length giving_up.now ≡ length refers.now }
     requires staying { length staying.now ≡ length refers.now }
     requires refers { All (λ n. n < length marks.now.points) refers.now }
-    ensures { IfOk result (λ made. made.items ≡ flags_of (point_test marks.now.points (is_touched giving_up.now refers.now) (is_touched staying.now refers.now)) (length marks.now.points)) }
+    ensures { IfOk result (λ made. made.items
+        ≡ flags_of (point_test marks.now.points (is_touched giving_up.now refers.now) (is_touched staying.now refers.now))
+        (length marks.now.points)) }
 {
     let points = marks.points();
     let given_up = touched(alloc, giving_up, refers, points.len())?;

@@ -1,4 +1,4 @@
-use Rattle.std.proofs.Common.{◌≡◌, ◌≤◌, take}
+use Rattle.std.proofs.Common.{◌≡◌}
 use Rattle.sop_model.specs.Sweep.{is_marked, how_many}
 use Rattle.sop_shape.proofs.CountLemmas.{AreCountsTo}
 use Rattle.sop_shape.proofs.lists.counts_before.Given as goal

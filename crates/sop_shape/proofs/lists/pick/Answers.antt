@@ -1,5 +1,4 @@
 use Rattle.sop_shape.proofs.MakeLemmas.{pick_more}
-use Rattle.std.proofs.Common.{◌≡◌}
 use Rattle.sop_shape.proofs.lists.pick.Goals as goal
 
 pub loop-place-preserved : goal.loop-place-preserved

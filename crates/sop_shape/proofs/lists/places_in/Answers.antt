@@ -1,4 +1,4 @@
-use Rattle.std.proofs.Common.{◌≡◌, ◌+◌, ◌-◌, ◌<◌, length, get_or, refl, subst, arith}
+use Rattle.std.proofs.Common.{◌≡◌, ◌+◌, ◌-◌, get_or, refl, subst, arith}
 use Rattle.sop_shape.proofs.OrderLemmas.{IsInverting, number_within, inverting_more, inverted}
 use Rattle.sop_shape.proofs.lists.places_in.Goals as goal
 

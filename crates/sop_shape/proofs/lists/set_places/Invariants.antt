@@ -1,4 +1,4 @@
-use Rattle.std.proofs.Common.{◌≡◌, take}
+use Rattle.std.proofs.Common.{◌≡◌}
 use Rattle.std.specs.List.{range_with_len}
 use Rattle.sop_model.specs.Sweep.{is_marked, kept}
 use Rattle.sop_shape.proofs.lists.set_places.Given as goal

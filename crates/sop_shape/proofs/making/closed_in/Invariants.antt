@@ -1,5 +1,4 @@
 use Rattle.std.proofs.Common.{◌≡◌, map, take}
-use Rattle.sop_model.specs.Vertices.{corners_of, ends_of}
 use Rattle.sop_shape.proofs.making.closed_in.Given as goal
 
 abbrev pub invariant-loop-prim : goal.invariant-loop-prim

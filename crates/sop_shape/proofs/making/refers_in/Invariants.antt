@@ -1,5 +1,5 @@
 use Rattle.std.proofs.Common.{◌≡◌, map, take}
-use Rattle.sop_model.specs.Vertices.{corners_of, ends_of}
+use Rattle.sop_model.specs.Vertices.{corners_of}
 use Rattle.sop_shape.proofs.making.refers_in.Given as goal
 
 abbrev pub invariant-loop-vertex : goal.invariant-loop-vertex

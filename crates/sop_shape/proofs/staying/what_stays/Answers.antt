@@ -1,7 +1,5 @@
-use Rattle.std.proofs.Common.{◌∙◌, ◌≤◌, ◌<◌, length, get_or, ap, sym, subst, arith}
-use Rattle.std.specs.Prelude.{All}
-use Rattle.sop_model.specs.declared.class.Class.TheVariants.{Vertex}
-use Rattle.sop_model.specs.Sweep.{is_marked, stays}
+use Rattle.std.proofs.Common.{◌∙◌, length, get_or, ap, sym, arith}
+use Rattle.sop_model.specs.Sweep.{is_marked}
 use Rattle.sop_shape.specs.Tests.{flags_of, gives_up, grows, is_touched, point_test, vertex_test}
 use Rattle.sop_shape.proofs.ReadLemmas.{ends_within}
 use Rattle.sop_shape.proofs.StayLemmas.{length-flags, owners_many, owners_small, staying_vertices, staying_points, staying_prims}

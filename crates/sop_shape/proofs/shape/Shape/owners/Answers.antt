@@ -1,6 +1,6 @@
 use Rattle.std.proofs.Common.{arith}
 use Rattle.sop_shape.proofs.ReadLemmas.{prims_counted}
-use Rattle.sop_shape.proofs.AddLemmas.{owners_more, owners_all}
+use Rattle.sop_shape.proofs.AddLemmas.{owners_more}
 use Rattle.sop_shape.proofs.shape.Shape.owners.Goals as goal
 
 pub loop-prim-preserved : goal.loop-prim-preserved
