@@ -8,3 +8,6 @@ mod names;
 pub use bit_column::BitColumn;
 pub use column::Column;
 pub use names::Names;
+
+#[cfg(test)]
+mod tests;
