@@ -1,0 +1,12 @@
+pub mod TabulatedLemmas
+pub mod RowLemmas
+pub mod FlatLemmas
+pub mod KeptLemmas
+pub mod ColumnLemmas
+pub mod StepLemmas
+pub mod MemberLemmas
+pub mod RoomLemmas
+pub mod ReadLemmas
+pub mod SetLemmas
+pub mod SwapLemmas
+pub mod FreshLemmas

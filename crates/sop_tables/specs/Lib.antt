@@ -1,0 +1,3 @@
+pub mod Transposed
+pub mod Tables
+pub mod Fresh

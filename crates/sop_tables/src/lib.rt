@@ -1,0 +1,10 @@
+//! The attributes and groups of one class of elements, with a column of values for each attribute and the members of each group.
+#![tactic(auto)]
+
+mod cells;
+mod fresh;
+mod heads;
+mod lots;
+mod table;
+
+pub use table::Table;
