@@ -1,0 +1,2 @@
+pub mod PrimLemmas
+pub mod SheetLemmas

@@ -1,0 +1,2 @@
+//! Geometries under keys, as columns over counted pages.
+#![tactic(auto)]
