@@ -1,2 +1,4 @@
 pub mod PrimLemmas
+pub mod FourLemmas
 pub mod SheetLemmas
+pub mod ViewLemmas

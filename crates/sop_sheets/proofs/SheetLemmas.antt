@@ -12,11 +12,12 @@ use Rattle.sop_rows.proofs.ClassRows.{HasShapeOf, each_class}
 use Rattle.sop_shape.specs.Shapes.{ShapeLists, shape_of}
 use Rattle.sop_pages.specs.Pages.{count}
 use Rattle.sop_pages.specs.Moves.{times, Covers, Moves}
-use Rattle.sop_pages.proofs.MoveLemmas.{times-append}
 use Rattle.sop_cells.specs.declared.place.Place.{Place}
 use Rattle.sop_cells.specs.declared.place.Place.TheVariants.{Own, Base}
 use Rattle.sop_cells.specs.Places.{own}
 use Rattle.sop_cells.specs.Shelves.{ShelfPages, Shifts}
+use Rattle.sop_cells.proofs.PlaceLemmas.{held-append}
+use Rattle.sop_tables.proofs.KeptLemmas.{frame}
 use Rattle.sop_columns.specs.Names.{NameTable, Grows}
 use Rattle.sop_tables.specs.Tables.{TableLists, places_in, rows, IsTable, IsTableStep}
 use Rattle.sop_sheets.specs.Primitives.{prims_from}
@@ -63,11 +64,6 @@ same_shape g h is =
 
 -- PLACES
 
-pub own-append : (ps qs : List Place) → own (ps ++ qs) ≡ own ps ++ own qs
-own-append [] qs = refl
-own-append (Own id ∷ ps) qs = ap (λ r. id ∷ r) (own-append ps qs)
-own-append (Base id ∷ ps) qs = own-append ps qs
-
 -- how often a table holds a page
 abbrev pub table_times : ℕ → TableLists → ℕ
 table_times id t = times id (own (places_in t))
@@ -78,10 +74,13 @@ sheet_times id sheet =
     let B = places_in sheet.prim in
     let C = places_in sheet.point in
     let D = places_in sheet.vertex in
-    let whole : times id (own (places_of sheet)) ≡ times id (own ((A ++ B) ++ C)) + times id (own D) = ap (times id) (own-append ((A ++ B) ++ C) D) ∙ times-append id (own ((A ++ B) ++ C)) (own D) in
-    let three : times id (own ((A ++ B) ++ C)) ≡ times id (own (A ++ B)) + times id (own C) = ap (times id) (own-append (A ++ B) C) ∙ times-append id (own (A ++ B)) (own C) in
-    let two : times id (own (A ++ B)) ≡ times id (own A) + times id (own B) = ap (times id) (own-append A B) ∙ times-append id (own A) (own B) in
-    whole ∙ ap (λ k. k + times id (own D)) (three ∙ ap (λ k. k + times id (own C)) two)
+    let last : times id (own (C ++ D)) ≡ times id (own C) + times id (own D) = held-append id C D in
+    let more : times id (own (B ++ (C ++ D))) ≡ times id (own B) + times id (own (C ++ D)) = held-append id B (C ++ D) in
+    let whole : times id (own (places_of sheet)) ≡ times id (own A) + times id (own (B ++ (C ++ D))) = held-append id A (B ++ (C ++ D)) in
+    whole ∙ ap (λ k. times id (own A) + k) (more ∙ ap (λ k. times id (own B) + k) last) ∙ flat_sum (times id (own A)) (times id (own B)) (times id (own C)) (times id (own D))
+  where
+    flat_sum : (a b c d : ℕ) → a + (b + (c + d)) ≡ a + b + c + d
+    flat_sum a b c d = omega arith
 
 pub in_sheet : (id : ℕ) (sheet : SheetLists) (class : Class) → table_times id (table_of sheet class) ≤ times id (own (places_of sheet))
 in_sheet id sheet Detail = let a = sheet_times id sheet in omega arith
@@ -137,64 +136,58 @@ table_of-with_table_other sheet Vertex t Prim ne = refl
 table_of-with_table_other sheet Vertex t Point ne = refl
 table_of-with_table_other sheet Vertex t Vertex ne = absurd (ne refl)
 
--- THE FRAME OF TABLES, proved below this crate
-abbrev pub IsTableFrame : Type 0
-IsTableFrame = (s t : ShelfPages) (n m : NameTable) (gone come : List Place) → Shifts s t gone come → Grows n m → (tb : TableLists)
-    → ((id : ℕ) → 1 ≤ table_times id tb → times id (own gone) < count s.own id) → IsTable s n tb → IsTable t m tb × (rows t m tb ≡ rows s n tb)
+-- a sheet whose pages all have another place is what it was
+pub sheet_kept : (s t : ShelfPages) (n m : NameTable) (gone come : List Place) → Shifts s t gone come → Grows n m → (sheet : SheetLists)
+    → ((id : ℕ) → 1 ≤ times id (own (places_of sheet)) → times id (own gone) < count s.own id) → (is : IsSheet s n sheet) → IsSheet t m sheet × (geo_of t m sheet ≡ geo_of s n sheet)
+sheet_kept s t n m gone come shifts grows sheet free is =
+    let each = λ (class : Class). frame s t n m gone come shifts grows (table_of sheet class) (λ id h. free id (let a = in_sheet id sheet class in omega arith)) (is.tables class) in
+    let st : Stands t m sheet is.geo = record { sets = is.stands.sets; rows = λ class. (each class).1 ∙ is.stands.rows class; shape = is.stands.shape } in
+    (record { tables = λ class. (each class).0; geo = is.geo; stands = st; sound = is.sound; within = is.within; values = is.values }, stands_for t m sheet is.geo st ∙ sym (sheet_stands s n sheet is))
 
-module _ (frame : IsTableFrame) where
-  -- a sheet whose pages all have another place is what it was
-  pub sheet_kept : (s t : ShelfPages) (n m : NameTable) (gone come : List Place) → Shifts s t gone come → Grows n m → (sheet : SheetLists)
-      → ((id : ℕ) → 1 ≤ times id (own (places_of sheet)) → times id (own gone) < count s.own id) → (is : IsSheet s n sheet) → IsSheet t m sheet × (geo_of t m sheet ≡ geo_of s n sheet)
-  sheet_kept s t n m gone come shifts grows sheet free is =
-      let each = λ (class : Class). frame s t n m gone come shifts grows (table_of sheet class) (λ id h. free id (let a = in_sheet id sheet class in omega arith)) (is.tables class) in
-      let st : Stands t m sheet is.geo = record { sets = is.stands.sets; rows = λ class. (each class).1 ∙ is.stands.rows class; shape = is.stands.shape } in
-      (record { tables = λ class. (each class).0; geo = is.geo; stands = st; sound = is.sound; within = is.within; values = is.values }, stands_for t m sheet is.geo st ∙ sym (sheet_stands s n sheet is))
+-- one table has taken a step: the geometry has other heads, groups and rows of that class, and all else as before
+module _ (s t : ShelfPages) (n m : NameTable) (sheet : SheetLists) (class : Class) (now : TableLists) (is : IsSheet s n sheet) (held : Covers s.own (own (places_of sheet)))
+    (step : IsTableStep s t n m (table_of sheet class) now) (g : Geo) (set : now.set ≡ heads_of g class) (row : rows t m now ≡ rows_of g class)
+    (sets : (other : Class) → other ≢ class → heads_of g other ≡ heads_of is.geo other) (others : (other : Class) → other ≢ class → rows_of g other ≡ rows_of is.geo other) (shape : HasShapeOf is.geo g)
+    (sound : IsSound g) (within : IsWithin g) (values : AreValuesWithin g) where
+  other_kept : (other : Class) → other ≢ class → IsTable t m (table_of sheet other) × (rows t m (table_of sheet other) ≡ rows s n (table_of sheet other))
+  other_kept other ne =
+      frame s t n m (places_in (table_of sheet class)) (places_in now) step.shifts step.grows (table_of sheet other)
+      (λ id h. let a = in_two id sheet class other ne in let b = held.each id in omega arith) (is.tables other)
 
-  -- one table has taken a step: the geometry has other heads, groups and rows of that class, and all else as before
-  module _ (s t : ShelfPages) (n m : NameTable) (sheet : SheetLists) (class : Class) (now : TableLists) (is : IsSheet s n sheet) (held : Covers s.own (own (places_of sheet)))
-      (step : IsTableStep s t n m (table_of sheet class) now) (g : Geo) (set : now.set ≡ heads_of g class) (row : rows t m now ≡ rows_of g class)
-      (sets : (other : Class) → other ≢ class → heads_of g other ≡ heads_of is.geo other) (others : (other : Class) → other ≢ class → rows_of g other ≡ rows_of is.geo other) (shape : HasShapeOf is.geo g)
-      (sound : IsSound g) (within : IsWithin g) (values : AreValuesWithin g) where
-    other_kept : (other : Class) → other ≢ class → IsTable t m (table_of sheet other) × (rows t m (table_of sheet other) ≡ rows s n (table_of sheet other))
-    other_kept other ne =
-        frame s t n m (places_in (table_of sheet class)) (places_in now) step.shifts step.grows (table_of sheet other)
-        (λ id h. let a = in_two id sheet class other ne in let b = held.each id in omega arith) (is.tables other)
+  abbrev after : SheetLists
+  after = with_table sheet class now
 
-    abbrev after : SheetLists
-    after = with_table sheet class now
+  class_tables : (other : Class) → IsTable t m (table_of after other)
+  class_tables = each_class (λ other. IsTable t m (table_of after other)) class (subst (IsTable t m) (sym (table_of-with_table sheet class now)) step.table)
+      (λ other ne. subst (IsTable t m) (sym (table_of-with_table_other sheet class now other ne)) (other_kept other ne).0)
 
-    class_tables : (other : Class) → IsTable t m (table_of after other)
-    class_tables = each_class (λ other. IsTable t m (table_of after other)) class (subst (IsTable t m) (sym (table_of-with_table sheet class now)) step.table)
-        (λ other ne. subst (IsTable t m) (sym (table_of-with_table_other sheet class now other ne)) (other_kept other ne).0)
+  class_stands : Stands t m after g
+  class_stands = record {
+    sets = each_class (λ other. (table_of after other).set ≡ heads_of g other) class (ap (λ (tb : TableLists). tb.set) (table_of-with_table sheet class now) ∙ set)
+        (λ other ne. ap (λ (tb : TableLists). tb.set) (table_of-with_table_other sheet class now other ne) ∙ is.stands.sets other ∙ sym (sets other ne));
+    rows = each_class (λ other. rows t m (table_of after other) ≡ rows_of g other) class (ap (rows t m) (table_of-with_table sheet class now) ∙ row)
+        (λ other ne. ap (rows t m) (table_of-with_table_other sheet class now other ne) ∙ (other_kept other ne).1 ∙ is.stands.rows other ∙ sym (others other ne));
+    shape = same_shape is.geo g shape ∙ is.stands.shape ∙ after_shape class;
+  }
+    where
+      after_shape : (c : Class) → sheet.shape ≡ (with_table sheet c now).shape
+      after_shape Detail = refl
+      after_shape Prim = refl
+      after_shape Point = refl
+      after_shape Vertex = refl
 
-    class_stands : Stands t m after g
-    class_stands = record {
-      sets = each_class (λ other. (table_of after other).set ≡ heads_of g other) class (ap (λ (tb : TableLists). tb.set) (table_of-with_table sheet class now) ∙ set)
-          (λ other ne. ap (λ (tb : TableLists). tb.set) (table_of-with_table_other sheet class now other ne) ∙ is.stands.sets other ∙ sym (sets other ne));
-      rows = each_class (λ other. rows t m (table_of after other) ≡ rows_of g other) class (ap (rows t m) (table_of-with_table sheet class now) ∙ row)
-          (λ other ne. ap (rows t m) (table_of-with_table_other sheet class now other ne) ∙ (other_kept other ne).1 ∙ is.stands.rows other ∙ sym (others other ne));
-      shape = same_shape is.geo g shape ∙ is.stands.shape ∙ after_shape class;
-    }
-      where
-        after_shape : (c : Class) → sheet.shape ≡ (with_table sheet c now).shape
-        after_shape Detail = refl
-        after_shape Prim = refl
-        after_shape Point = refl
-        after_shape Vertex = refl
-
-    pub class_step : IsSheetStep s t n m sheet (with_table sheet class now)
-    class_step = record {
-      shifts = record {
-        base = step.shifts.base;
-        moves = record {
-          counts = λ id. let a = with_table_times id sheet class now in let b = step.shifts.moves.counts id in omega arith;
-          kept = λ id less. step.shifts.moves.kept id (let a = in_sheet id sheet class in omega arith);
-        };
+  pub class_step : IsSheetStep s t n m sheet (with_table sheet class now)
+  class_step = record {
+    shifts = record {
+      base = step.shifts.base;
+      moves = record {
+        counts = λ id. let a = with_table_times id sheet class now in let b = step.shifts.moves.counts id in omega arith;
+        kept = λ id less. step.shifts.moves.kept id (let a = in_sheet id sheet class in omega arith);
       };
-      grows = step.grows;
-      sheet = record { tables = class_tables; geo = g; stands = class_stands; sound = sound; within = within; values = values };
-    }
+    };
+    grows = step.grows;
+    sheet = record { tables = class_tables; geo = g; stands = class_stands; sound = sound; within = within; values = values };
+  }
 
-    pub class_geo : geo_of t m (with_table sheet class now) ≡ g
-    class_geo = stands_for t m after g class_stands
+  pub class_geo : geo_of t m (with_table sheet class now) ≡ g
+  class_geo = stands_for t m after g class_stands

@@ -37,7 +37,7 @@ with_table sheet Vertex t = record sheet { vertex = t }
 
 -- all places of a geometry
 abbrev pub places_of : SheetLists → List Place
-places_of sheet = places_in sheet.detail ++ places_in sheet.prim ++ places_in sheet.point ++ places_in sheet.vertex
+places_of sheet = places_in sheet.detail ++ (places_in sheet.prim ++ (places_in sheet.point ++ places_in sheet.vertex))
 
 -- the geometry that a sheet stands for
 abbrev pub geo_of : ShelfPages → NameTable → SheetLists → Geo

@@ -1,6 +1,10 @@
 //! A geometry as columns: a table for each class of elements, and the shape of its primitives.
 #![tactic(auto)]
 
+mod sheet;
 mod topology;
+mod view;
 
+pub use sheet::Sheet;
 pub use topology::Topology;
+pub use view::GeoRef;
