@@ -2,3 +2,4 @@ pub mod PrimLemmas
 pub mod FourLemmas
 pub mod SheetLemmas
 pub mod ViewLemmas
+pub mod CallLemmas

@@ -12,7 +12,7 @@ use Rattle.sop_shape.specs.Shapes.{ShapeLists, shape_of}
 use Rattle.sop_cells.specs.declared.place.Place.{Place}
 use Rattle.sop_cells.specs.Shelves.{ShelfPages, Shifts}
 use Rattle.sop_columns.specs.Names.{NameTable, Grows}
-use Rattle.sop_tables.specs.Tables.{TableLists, places_in, rows, IsTable}
+use Rattle.sop_tables.specs.Tables.{TableLists, places_in, rows, IsTable, IsNoStep}
 use Rattle.sop_sheets.specs.Primitives.{prims_from}
 
 -- A table for each class, and the shape of the primitives.
@@ -81,3 +81,13 @@ pub record IsSheetMade (s t : ShelfPages) (n m : NameTable) (new : SheetLists) :
   pub shifts : Shifts s t [] (places_of new)
   pub grows : Grows n m
   pub sheet : IsSheet t m new
+
+-- the sheet stands for this geometry now
+pub record Becomes (s t : ShelfPages) (n m : NameTable) (old new : SheetLists) (g : Geo) : Type 0 where
+  pub step : IsSheetStep s t n m old new
+  pub geo : geo_of t m new ≡ g
+
+-- the sheet and every page stay as they are; names may have come
+pub record Stays (s t : ShelfPages) (n m : NameTable) (old new : SheetLists) : Type 0 where
+  pub same : new ≡ old
+  pub pages : IsNoStep s t n m
