@@ -1,7 +1,8 @@
 -- What a geometry that is kept as columns has, told by its sheet.
-use Rattle.std.proofs.Common.{◌≡◌, ℕ, ◌<◌, List, length, map, refl, ap, sym, ◌∙◌, subst, arith}
+use Rattle.std.proofs.Common.{◌≡◌, ℕ, ◌<◌, List, ◌++◌, length, map, refl, ap, sym, ◌∙◌, subst, arith}
 use Rattle.std.proofs.lemmas.List.{length-map}
 use Rattle.sop_model.specs.declared.class.Class.{Class}
+use Rattle.sop_model.specs.declared.class.Class.TheVariants.{Detail, Prim, Point, Vertex}
 use Rattle.sop_model.specs.declared.geo.Geo.{Geo}
 use Rattle.sop_model.specs.declared.geo.HeadSet.{HeadSet}
 use Rattle.sop_model.specs.declared.geo.Row.{Row}
@@ -11,6 +12,7 @@ use Rattle.sop_shape.specs.Shapes.{shape_of, HasShape}
 use Rattle.sop_pages.specs.Moves.{Covers}
 use Rattle.sop_cells.specs.Places.{own}
 use Rattle.sop_cells.specs.Shelves.{ShelfPages}
+use Rattle.sop_cells.proofs.PlaceLemmas.{based-append}
 use Rattle.sop_columns.specs.Names.{NameTable}
 use Rattle.sop_tables.specs.Transposed.{row_of}
 use Rattle.sop_tables.specs.Tables.{TableLists, places_in, rows, held, IsTable, IsHeld}
@@ -49,3 +51,13 @@ module _ (s : ShelfPages) (n : NameTable) (sheet : SheetLists) (is : IsSheet s n
   -- each table's places are held
   pub table_in : IsHeld s (places_of sheet) → (class : Class) → IsHeld s (places_in (table_of sheet class))
   table_in h class = table_held s n (table_of sheet class) (is.tables class) (record { each = λ id. let a = h.covered.each id in let b = in_sheet id sheet class in omega arith })
+
+-- the places of a sheet whose own pages are counted
+pub sheet_held : (s : ShelfPages) (n : NameTable) (sheet : SheetLists) → IsSheet s n sheet → Covers s.own (own (places_of sheet)) → IsHeld s (places_of sheet)
+sheet_held s n sheet is covered =
+    let each = λ (class : Class). (table_held s n (table_of sheet class) (is.tables class) (record { each = λ id. let a = covered.each id in let b = in_sheet id sheet class in omega arith })).based in
+    record {
+      covered = covered;
+      based = based-append s.base (places_in sheet.detail) (places_in sheet.prim ++ (places_in sheet.point ++ places_in sheet.vertex)) (each Detail)
+          (based-append s.base (places_in sheet.prim) (places_in sheet.point ++ places_in sheet.vertex) (each Prim) (based-append s.base (places_in sheet.point) (places_in sheet.vertex) (each Point) (each Vertex)));
+    }

@@ -3,6 +3,8 @@ ghost use Rattle.std.specs.Prelude.{◌≡◌, ◌<◌, ◌≤◌, length, Some,
 ghost use Rattle.std.specs.Option.{option_map};
 ghost use Rattle.std.specs.Str.{bytes_eq};
 ghost use Rattle.sop_model.specs.Limits.{most_heads, most_groups};
+ghost use Rattle.sop_tables.specs.Tables.{IsHeld};
+ghost use Rattle.sop_sheets.specs.Sheets.{geo_of, places_of, IsSheet};
 
 use crate::sheet::Sheet;
 use sop_cells::Shelf;
@@ -29,6 +31,21 @@ impl<'a> Model for GeoRef<'a> {
     ghost view = { λ r. geo_of r.shelf.now r.names.now r.sheet.now };
 
     ghost invariant = { λ r. IsSheet r.shelf.now r.names.now r.sheet.now × IsHeld r.shelf.now (places_of r.sheet.now) };
+}
+
+impl<'a> GeoRef<'a> {
+    /// A view of the geometry that a sheet stands for on a shelf, with its names. It takes no memory.
+    pub fn new(sheet: &'a Sheet, shelf: &'a Shelf<'a>, names: &'a Names) -> GeoRef<'a>
+        requires sheet { IsSheet shelf.now names.now sheet.now }
+        requires held { IsHeld shelf.now (places_of sheet.now) }
+        ensures { result ≡ geo_of shelf.now names.now sheet.now }
+    {
+        GeoRef {
+            sheet,
+            shelf,
+            names,
+        }
+    }
 }
 
 impl<'a> GeoView for GeoRef<'a> {

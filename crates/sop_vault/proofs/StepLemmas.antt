@@ -12,8 +12,12 @@ use Rattle.sop_cells.specs.Places.{own}
 use Rattle.sop_cells.specs.Shelves.{ShelfPages, Shifts}
 use Rattle.sop_columns.specs.Names.{NameTable, Grows}
 use Rattle.sop_vault.specs.Keyed.{Keyed, at, total, Changes, Adds, AreSame}
-use Rattle.sop_vault.specs.Counted.{slot_places, holds, AreCounted, IsSlot, AreSlots, all_seen}
+use Rattle.sop_vault.specs.Counted.{slot_places, holds, CountsPlaces, IsSlot, AreSlots, all_seen}
 use Rattle.sop_vault.proofs.KeyedLemmas.{total_at, total_two, total_same, total_changes, total_bound}
+
+pub times_length : (x : ℕ) (xs : List ℕ) → times x xs ≤ length xs
+times_length x [] = omega arith
+times_length x (y ∷ ys) = let r = times_length x ys in grind (arith, nat_tests)
 
 -- what is kept at a key: its places, when it is well kept, and what it stands for
 module _ {X G : Type 0} (places : X → List Place) (Is : ShelfPages → NameTable → X → Type 0) (seen : ShelfPages → NameTable → X → G) where
@@ -26,7 +30,7 @@ module _ {X G : Type 0} (places : X → List Place) (Is : ShelfPages → NameTab
   seen_at s n slots k = get_or-map (option_map (seen s n)) slots k None
 
   -- what a live key knows
-  module _ (s : ShelfPages) (n : NameTable) (slots : Keyed X) (counted : (AreCounted places) s slots) (each : (AreSlots Is) s n slots) (key : ℕ) (x : X) (is : at slots key ≡ Some x) where
+  module _ (s : ShelfPages) (n : NameTable) (slots : Keyed X) (counted : (CountsPlaces places) s slots) (each : (AreSlots Is) s n slots) (key : ℕ) (x : X) (is : at slots key ≡ Some x) where
     pub key_covered : Covers s.own (own (places x))
     key_covered = record { each = λ id. let a = total_at ((holds places) id) refl slots key in let b = counted id in let e = ap ((holds places) id) is in omega arith }
 
@@ -37,15 +41,11 @@ module _ {X G : Type 0} (places : X → List Place) (Is : ShelfPages → NameTab
     key_seen view same = ap (λ (v : Keyed G). at v key) (sym same) ∙ seen_at s n slots key ∙ ap (option_map (seen s n)) is
 
   -- counts have room where there are few keys with few places
-  pub counts_room : (s : ShelfPages) (slots : Keyed X) → (AreCounted places) s slots → (most : ℕ) → ((k : ℕ) → length (own ((slot_places places) (at slots k))) ≤ most) → (id : ℕ) → count s.own id ≤ length slots * most
+  pub counts_room : (s : ShelfPages) (slots : Keyed X) → (CountsPlaces places) s slots → (most : ℕ) → ((k : ℕ) → length (own ((slot_places places) (at slots k))) ≤ most) → (id : ℕ) → count s.own id ≤ length slots * most
   counts_room s slots counted most few id =
       let a = counted id in
       let b = total_bound ((holds places) id) refl slots most (λ k. let l = few k in let t = times_length id (own ((slot_places places) (at slots k))) in omega arith) in
       omega arith
-    where
-      times_length : (x : ℕ) (xs : List ℕ) → times x xs ≤ length xs
-      times_length x [] = omega arith
-      times_length x (y ∷ ys) = let r = times_length x ys in grind (arith, nat_tests)
 
   module _ (frame : IsFramed) where
     slot_kept : (s t : ShelfPages) (n m : NameTable) (gone come : List Place) → Shifts s t gone come → Grows n m → (o : Option X) → ((id : ℕ) → 1 ≤ (holds places) id o → times id (own gone) < count s.own id) → (IsSlot Is) s n o → (IsSlot Is) t m o
@@ -57,12 +57,12 @@ module _ {X G : Type 0} (places : X → List Place) (Is : ShelfPages → NameTab
     slot_seen s t n m gone come shifts grows (Some x) free is = ap Some ((frame s t n m gone come shifts grows x free is).1)
 
     -- THE STEP
-    module _ (s t : ShelfPages) (n m : NameTable) (old new : Keyed X) (key : ℕ) (was now : Option X) (counted : (AreCounted places) s old) (each : (AreSlots Is) s n old) (grows : Grows n m)
+    module _ (s t : ShelfPages) (n m : NameTable) (old new : Keyed X) (key : ℕ) (was now : Option X) (counted : (CountsPlaces places) s old) (each : (AreSlots Is) s n old) (grows : Grows n m)
         (at_was : at old key ≡ was) (at_now : at new key ≡ now) (others : (k : ℕ) → k ≢ key → at new k ≡ at old k) (shifts : Shifts s t ((slot_places places) was) ((slot_places places) now)) where
       beside : (k : ℕ) → k ≢ key → (id : ℕ) → 1 ≤ (holds places) id (at old k) → times id (own ((slot_places places) was)) < count s.own id
       beside k apart id h = let a = total_two ((holds places) id) refl old k key apart in let b = counted id in let e = ap ((holds places) id) at_was in omega arith
 
-      pub step_counted : (AreCounted places) t new
+      pub step_counted : (CountsPlaces places) t new
       step_counted id =
           let a = shifts.moves.counts id in
           let b = counted id in

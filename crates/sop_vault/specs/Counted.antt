@@ -20,8 +20,8 @@ module _ {X : Type 0} (places : X → List Place) where
   holds id o = times id (own (slot_places o))
 
   -- each page's count is the number of places that hold it
-  abbrev pub AreCounted : ShelfPages → Keyed X → Type 0
-  AreCounted s slots = (id : ℕ) → count s.own id ≡ total (holds id) slots
+  abbrev pub CountsPlaces : ShelfPages → Keyed X → Type 0
+  CountsPlaces s slots = (id : ℕ) → count s.own id ≡ total (holds id) slots
 
 -- when it is well kept
 module _ {X : Type 0} (Is : ShelfPages → NameTable → X → Type 0) where

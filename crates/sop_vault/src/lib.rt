@@ -1,2 +1,11 @@
 //! Geometries under keys, as columns over counted pages.
+//!
+//! A vault keeps each geometry as columns of values, whose pages it counts: a geometry that is shared costs a count for each page, and
+//! one that is changed gets pages of its own for what changes. Contracts see a map from keys to geometries.
 #![tactic(auto)]
+
+mod vault;
+mod vault_end;
+
+pub use vault::{GeoKey, Vault};
+pub use vault_end::VaultEnd;
