@@ -10,7 +10,7 @@ use Rattle.sop_model.specs.declared.value.Value.{Value}
 use Rattle.sop_model.specs.Limits.{most_heads, most_groups}
 use Rattle.sop_model.specs.Values.{default_of, is_value_within}
 use Rattle.sop_model.specs.Geometry.{heads_of, rows_of, count_of, IsSound, IsWithin, AreValuesWithin}
-use Rattle.sop_model.specs.Rows.{changed_at, with_value, with_flag, with_last_value, with_last_flag, without_value, rows_held, with_last_head, with_last_group, without_head, value_set, member_set, column_held, attr_added, attr_deleted, group_added, HasHead, IsOfHead, IsNewHead, IsNewGroup, HasGroups, IsNotPosition}
+use Rattle.sop_model.specs.Rows.{changed_at, with_value, with_flag, with_last_value, with_last_flag, without_value, rows_held, with_last_head, with_last_group, without_head, value_set, member_set, column_held, column_cleared, default_at, attr_added, attr_deleted, group_added, HasHead, IsOfHead, IsNewHead, IsNewGroup, HasGroups, IsNotPosition}
 use Rattle.sop_model.proofs.RowLists.{length-changed_at}
 use Rattle.sop_rows.proofs.RowSound.{length-rows_held}
 use Rattle.sop_rows.proofs.ClassRows.{HasShapeOf, heads_of-with_rows, rows_of-with_rows_other, heads_of-with_class_other, rows_of-with_class_other}
@@ -23,7 +23,8 @@ use Rattle.sop_cells.proofs.PlaceLemmas.{stays}
 use Rattle.sop_columns.specs.Names.{NameTable, Grows}
 use Rattle.sop_tables.specs.Tables.{TableLists, places_in, rows, IsTable, IsHeld, IsTableStep, IsNoStep}
 use Rattle.sop_sheets.specs.Sheets.{SheetLists, table_of, with_table, places_of, geo_of, IsSheet, IsSheetStep, Becomes, Stays}
-use Rattle.sop_sheets.proofs.SheetLemmas.{sheet_stands, class_step, class_geo}
+use Rattle.sop_shape.specs.Shapes.{shape_of}
+use Rattle.sop_sheets.proofs.SheetLemmas.{sheet_stands, same_shape, class_step, class_geo}
 
 -- what holds of Ok or of Err, told by what follows from it
 pub on_ok : {X E P Q : Type 0} (r : Result X E) → (P → Q) → OnOk r P → OnOk r Q
@@ -46,7 +47,7 @@ module _ (s t : ShelfPages) (n m : NameTable) (sheet new : SheetLists) (class : 
   -- the geometry is another one, whose class has these heads, groups and rows
   becomes : (g : Geo) → now.set ≡ heads_of g class → rows t m now ≡ rows_of g class
       → ((other : Class) → other ≢ class → heads_of g other ≡ heads_of is.geo other) → ((other : Class) → other ≢ class → rows_of g other ≡ rows_of is.geo other)
-      → HasShapeOf is.geo g → IsSound g → IsWithin g → AreValuesWithin g → (h : Geo) → g ≡ h → Becomes s t n m sheet new h
+      → shape_of g ≡ shape_of is.geo → IsSound g → IsWithin g → AreValuesWithin g → (h : Geo) → g ≡ h → Becomes s t n m sheet new h
   becomes g set row sets others shape sound within values h e = record {
     step = subst (IsSheetStep s t n m sheet) (sym rest) (class_step s t n m sheet class now is held step g set row sets others shape sound within values);
     geo = ap (geo_of t m) rest ∙ class_geo s t n m sheet class now is held step g set row sets others shape sound within values ∙ e;
@@ -69,7 +70,7 @@ module _ (s t : ShelfPages) (n m : NameTable) (sheet new : SheetLists) (class : 
       becomes (value_set g class head element v) (same ∙ set_was ∙ sym (heads_of-with_rows g class rs class))
       (row ∙ ap (λ (r : List Row). changed_at (with_value head v) r element) rows_was ∙ sym (rows_of-value_set g class head element v))
       (λ other ne. heads_of-with_rows g class rs other) (λ other ne. rows_of-with_rows_other g class rs other ne)
-      (HasShapeOf-value_set g class head element v) (leave_sound.set g class head element v is.sound (subst (λ (h : Geo). IsOfHead h class head v) (sym own_geo) of))
+      (same_shape g (value_set g class head element v) (HasShapeOf-value_set g class head element v)) (leave_sound.set g class head element v is.sound (subst (λ (h : Geo). IsOfHead h class head v) (sym own_geo) of))
       (leave_within.set g class head element v is.within) (leave_values_within.set g class head element v is.values within)
       (value_set (geo_of s n sheet) class head element v) (ap (λ (h : Geo). value_set h class head element v) own_geo)
 
@@ -81,7 +82,7 @@ module _ (s t : ShelfPages) (n m : NameTable) (sheet new : SheetLists) (class : 
       becomes (member_set g class group element on) (same ∙ set_was ∙ sym (heads_of-with_rows g class rs class))
       (row ∙ ap (λ (r : List Row). changed_at (with_flag group on) r element) rows_was ∙ sym (rows_of-member_set g class group element on))
       (λ other ne. heads_of-with_rows g class rs other) (λ other ne. rows_of-with_rows_other g class rs other ne)
-      (HasShapeOf-member_set g class group element on) (leave_sound.set_member g class group element on is.sound)
+      (same_shape g (member_set g class group element on) (HasShapeOf-member_set g class group element on)) (leave_sound.set_member g class group element on is.sound)
       (leave_within.set_member g class group element on is.within) (leave_values_within.set_member g class group element on is.values)
       (member_set (geo_of s n sheet) class group element on) (ap (λ (h : Geo). member_set h class group element on) own_geo)
 
@@ -93,9 +94,22 @@ module _ (s t : ShelfPages) (n m : NameTable) (sheet new : SheetLists) (class : 
       becomes (column_held g class head vs) (same ∙ set_was ∙ sym (heads_of-with_rows g class rs class))
       (row ∙ ap (λ (r : List Row). rows_held head r vs) rows_was ∙ sym (rows_of-column_held g class head vs))
       (λ other ne. heads_of-with_rows g class rs other) (λ other ne. rows_of-with_rows_other g class rs other ne)
-      (HasShapeOf-column_held g class head vs) (leave_sound.hold g class head vs is.sound (subst (λ (h : Geo). All (IsOfHead h class head) vs) (sym own_geo) of))
+      (same_shape g (column_held g class head vs) (HasShapeOf-column_held g class head vs)) (leave_sound.hold g class head vs is.sound (subst (λ (h : Geo). All (IsOfHead h class head) vs) (sym own_geo) of))
       (leave_within.hold g class head vs is.within) (leave_values_within.hold g class head vs is.values within)
       (column_held (geo_of s n sheet) class head vs) (ap (λ (h : Geo). column_held h class head vs) own_geo)
+
+  pub cleared_becomes : (head : ℕ) → HasHead (geo_of s n sheet) class head → now.set ≡ (table_of sheet class).set
+      → rows t m now ≡ rows_held head (rows s n (table_of sheet class)) (replicate (count_of (geo_of s n sheet) class) (default_at (geo_of s n sheet) class head)) → Becomes s t n m sheet new (column_cleared (geo_of s n sheet) class head)
+  cleared_becomes head there same row =
+      let g = is.geo in
+      let vs = λ (h : Geo). replicate (count_of h class) (default_at h class head) in
+      let rs = rows_held head (rows_of g class) (vs g) in
+      becomes (column_cleared g class head) (same ∙ set_was ∙ sym (heads_of-with_rows g class rs class))
+      (row ∙ ap (λ (h : Geo). rows_held head (rows s n (table_of sheet class)) (vs h)) (sym own_geo) ∙ ap (λ (r : List Row). rows_held head r (vs g)) rows_was ∙ sym (rows_of-column_held g class head (vs g)))
+      (λ other ne. heads_of-with_rows g class rs other) (λ other ne. rows_of-with_rows_other g class rs other ne)
+      (same_shape g (column_cleared g class head) (HasShapeOf-column_held g class head (vs g))) (leave_sound.clear g class head is.sound (subst (λ (h : Geo). HasHead h class head) (sym own_geo) there))
+      (leave_within.hold g class head (vs g) is.within) (leave_values_within.clear g class head is.values)
+      (column_cleared (geo_of s n sheet) class head) (ap (λ (h : Geo). column_cleared h class head) own_geo)
 
   pub attr_becomes : (head : Head) → IsNewHead (geo_of s n sheet) class head.name → length (heads_of (geo_of s n sheet) class).heads < most_heads → now.set ≡ with_last_head (table_of sheet class).set head
       → rows t m now ≡ map (with_last_value (default_of head.kind)) (rows s n (table_of sheet class)) → Becomes s t n m sheet new (attr_added (geo_of s n sheet) class head)
@@ -106,7 +120,7 @@ module _ (s t : ShelfPages) (n m : NameTable) (sheet new : SheetLists) (class : 
       becomes (attr_added g class head) (set ∙ ap (λ (h : HeadSet). with_last_head h head) set_was ∙ sym (heads_of-attr_added g class head))
       (row ∙ ap (map (with_last_value (default_of head.kind))) rows_was ∙ sym (rows_of-attr_added g class head))
       (λ other ne. heads_of-with_class_other g class hs rs other ne) (λ other ne. rows_of-with_class_other g class hs rs other ne)
-      (HasShapeOf-attr_added g class head) (leave_sound.add_attr g class head is.sound (subst (λ (h : Geo). IsNewHead h class head.name) (sym own_geo) fresh))
+      (same_shape g (attr_added g class head) (HasShapeOf-attr_added g class head)) (leave_sound.add_attr g class head is.sound (subst (λ (h : Geo). IsNewHead h class head.name) (sym own_geo) fresh))
       ((leave_within.add_attr g class head is.within).1 (subst (λ (h : Geo). length (heads_of h class).heads < most_heads) (sym own_geo) few)) (leave_values_within.add_attr g class head is.values)
       (attr_added (geo_of s n sheet) class head) (ap (λ (h : Geo). attr_added h class head) own_geo)
 
@@ -119,7 +133,7 @@ module _ (s t : ShelfPages) (n m : NameTable) (sheet new : SheetLists) (class : 
       becomes (attr_deleted g class head) (set ∙ ap (λ (h : HeadSet). without_head h head) set_was ∙ sym (heads_of-attr_deleted g class head))
       (row ∙ ap (map (without_value head)) rows_was ∙ sym (rows_of-attr_deleted g class head))
       (λ other ne. heads_of-with_class_other g class hs rs other ne) (λ other ne. rows_of-with_class_other g class hs rs other ne)
-      (HasShapeOf-attr_deleted g class head) (leave_sound.del_attr g class head is.sound apart)
+      (same_shape g (attr_deleted g class head) (HasShapeOf-attr_deleted g class head)) (leave_sound.del_attr g class head is.sound apart)
       (leave_within.del_attr g class head is.within) (leave_values_within.del_attr g class head is.values)
       (attr_deleted (geo_of s n sheet) class head) (ap (λ (h : Geo). attr_deleted h class head) own_geo)
 
@@ -132,6 +146,6 @@ module _ (s t : ShelfPages) (n m : NameTable) (sheet new : SheetLists) (class : 
       becomes (group_added g class name) (set ∙ ap (λ (h : HeadSet). with_last_group h name) set_was ∙ sym (heads_of-group_added g class name))
       (row ∙ ap (map (with_last_flag false)) rows_was ∙ sym (rows_of-group_added g class name))
       (λ other ne. heads_of-with_class_other g class hs rs other ne) (λ other ne. rows_of-with_class_other g class hs rs other ne)
-      (HasShapeOf-group_added g class name) (leave_sound.add_group g class name is.sound has (subst (λ (h : Geo). IsNewGroup h class name) (sym own_geo) fresh))
+      (same_shape g (group_added g class name) (HasShapeOf-group_added g class name)) (leave_sound.add_group g class name is.sound has (subst (λ (h : Geo). IsNewGroup h class name) (sym own_geo) fresh))
       ((leave_within.add_group g class name is.within).1 (subst (λ (h : Geo). length (heads_of h class).groups < most_groups) (sym own_geo) few)) (leave_values_within.add_group g class name is.values)
       (group_added (geo_of s n sheet) class name) (ap (λ (h : Geo). group_added h class name) own_geo)

@@ -147,7 +147,7 @@ sheet_kept s t n m gone come shifts grows sheet free is =
 -- one table has taken a step: the geometry has other heads, groups and rows of that class, and all else as before
 module _ (s t : ShelfPages) (n m : NameTable) (sheet : SheetLists) (class : Class) (now : TableLists) (is : IsSheet s n sheet) (held : Covers s.own (own (places_of sheet)))
     (step : IsTableStep s t n m (table_of sheet class) now) (g : Geo) (set : now.set ≡ heads_of g class) (row : rows t m now ≡ rows_of g class)
-    (sets : (other : Class) → other ≢ class → heads_of g other ≡ heads_of is.geo other) (others : (other : Class) → other ≢ class → rows_of g other ≡ rows_of is.geo other) (shape : HasShapeOf is.geo g)
+    (sets : (other : Class) → other ≢ class → heads_of g other ≡ heads_of is.geo other) (others : (other : Class) → other ≢ class → rows_of g other ≡ rows_of is.geo other) (shape : shape_of g ≡ shape_of is.geo)
     (sound : IsSound g) (within : IsWithin g) (values : AreValuesWithin g) where
   other_kept : (other : Class) → other ≢ class → IsTable t m (table_of sheet other) × (rows t m (table_of sheet other) ≡ rows s n (table_of sheet other))
   other_kept other ne =
@@ -167,7 +167,7 @@ module _ (s t : ShelfPages) (n m : NameTable) (sheet : SheetLists) (class : Clas
         (λ other ne. ap (λ (tb : TableLists). tb.set) (table_of-with_table_other sheet class now other ne) ∙ is.stands.sets other ∙ sym (sets other ne));
     rows = each_class (λ other. rows t m (table_of after other) ≡ rows_of g other) class (ap (rows t m) (table_of-with_table sheet class now) ∙ row)
         (λ other ne. ap (rows t m) (table_of-with_table_other sheet class now other ne) ∙ (other_kept other ne).1 ∙ is.stands.rows other ∙ sym (others other ne));
-    shape = same_shape is.geo g shape ∙ is.stands.shape ∙ after_shape class;
+    shape = shape ∙ is.stands.shape ∙ after_shape class;
   }
     where
       after_shape : (c : Class) → sheet.shape ≡ (with_table sheet c now).shape

@@ -2,6 +2,8 @@
 #![tactic(auto)]
 
 mod cells;
+mod columns;
+mod heads;
 mod sheet;
 mod topology;
 mod view;
