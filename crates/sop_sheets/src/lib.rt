@@ -3,7 +3,6 @@
 
 mod cells;
 mod columns;
-mod heads;
 mod sheet;
 mod topology;
 mod view;
