@@ -1,6 +1,6 @@
 -- What a step of one table makes of a geometry: one value or flag set, a column held, heads and groups added and taken away.
 use Rattle.std.proofs.Common.{◌≡◌, ◌≢◌, ℕ, ◌<◌, ◌≤◌, Bool, false, List, [], length, map, refl, ap, sym, ◌∙◌, subst, arith}
-use Rattle.std.specs.Prelude.{All, IsTrue, Result, Ok, Err, OnOk, OnErr, replicate}
+use Rattle.std.specs.Prelude.{All, IsTrue, Result, Ok, Err, OnOk, OnErr, IfOk, IfErr, replicate}
 use Rattle.sop_model.specs.declared.class.Class.{Class}
 use Rattle.sop_model.specs.declared.geo.Geo.{Geo}
 use Rattle.sop_model.specs.declared.geo.Head.{Head}
@@ -31,9 +31,29 @@ pub on_ok : {X E P Q : Type 0} (r : Result X E) → (P → Q) → OnOk r P → O
 on_ok (Ok x) f p = f p
 on_ok (Err e) f p = tt
 
+pub ok_two : {X E A B Q : Type 0} (r : Result X E) → (A → B → Q) → OnOk r A → OnOk r B → OnOk r Q
+ok_two (Ok x) f a b = f a b
+ok_two (Err e) f a b = tt
+
+pub ok_three : {X E A B C Q : Type 0} (r : Result X E) → (A → B → C → Q) → OnOk r A → OnOk r B → OnOk r C → OnOk r Q
+ok_three (Ok x) f a b c = f a b c
+ok_three (Err e) f a b c = tt
+
+pub ok_four : {X E A B C D Q : Type 0} (r : Result X E) → (A → B → C → D → Q) → OnOk r A → OnOk r B → OnOk r C → OnOk r D → OnOk r Q
+ok_four (Ok x) f a b c d = f a b c d
+ok_four (Err e) f a b c d = tt
+
 pub on_err : {X E P Q : Type 0} (r : Result X E) → (P → Q) → OnErr r P → OnErr r Q
 on_err (Ok x) f p = tt
 on_err (Err e) f p = f p
+
+pub if_ok : {X E : Type 0} {P Q : X → Type 0} (r : Result X E) → ((x : X) → P x → Q x) → IfOk r P → IfOk r Q
+if_ok (Ok x) f p = f x p
+if_ok (Err e) f p = tt
+
+pub if_err : {X E : Type 0} {P Q : E → Type 0} (r : Result X E) → ((e : E) → P e → Q e) → IfErr r P → IfErr r Q
+if_err (Ok x) f p = tt
+if_err (Err e) f p = f e p
 
 -- nothing but names came
 pub stays_still : (s t : ShelfPages) (n m : NameTable) (old new : SheetLists) → Grows n m → t ≡ s → new ≡ old → Stays s t n m old new

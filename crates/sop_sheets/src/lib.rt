@@ -3,6 +3,7 @@
 
 mod cells;
 mod columns;
+mod heads;
 mod sheet;
 mod topology;
 mod view;
