@@ -1,5 +1,7 @@
 //! A geometry as columns: what it holds, and copies that hold the same pages.
-ghost use Rattle.std.specs.Prelude.{◌≡◌, ◌≤◌, [], IfOk, OnOk, OnErr};
+ghost use Rattle.std.specs.Prelude.{◌≡◌, ◌≤◌, [], length, position, Some, None, IfOk, OnOk, OnErr};
+ghost use Rattle.std.specs.Str.{bytes_eq};
+ghost use Rattle.sop_model.specs.Limits.{most_heads, most_groups};
 ghost use Rattle.sop_pages.specs.Pages.{live_pages};
 ghost use Rattle.sop_cells.specs.Shelves.{Shifts};
 ghost use Rattle.sop_tables.specs.Tables.{IsHeld, HasRoom};
@@ -7,7 +9,8 @@ ghost use Rattle.sop_sheets.specs.Sheets.{table_of, places_of};
 
 use crate::topology::Topology;
 use sop_cells::Shelf;
-use sop_model::Class;
+use sop_model::{Class, Head};
+use sop_outside::Text;
 use sop_shape::Shape;
 use sop_tables::Table;
 use std::alloc::AllocError;
@@ -52,6 +55,43 @@ impl Sheet {
         self.topology.shape()
     }
 
+    /// How many elements a class has.
+    pub fn count(&self, class: Class) -> u32
+        ensures { result ≡ (table_of self.now class).count }
+    {
+        self.table(class).count()
+    }
+
+    /// How many attributes a class has, of which it may have 64.
+    pub fn heads(&self, class: Class) -> usize
+        ensures { result ≡ length (table_of self.now class).set.heads }
+    {
+        self.table(class).heads().len()
+    }
+
+    /// How many groups a class has, of which it may have 256.
+    pub fn groups(&self, class: Class) -> usize
+        ensures { result ≡ length (table_of self.now class).set.groups }
+    {
+        self.table(class).groups().len()
+    }
+
+    /// The number of the attribute of this name; `None` exactly where there is none.
+    pub fn find(&self, class: Class, name: &str) -> Option<u32>
+        requires { length (table_of self.now class).set.heads ≤ most_heads }
+        ensures { result ≡ position (λ h. bytes_eq h.name name.now) (table_of self.now class).set.heads }
+    {
+        head_place(self.table(class).heads(), name)
+    }
+
+    /// The number of the group of this name; `None` exactly where there is none.
+    pub fn find_group(&self, class: Class, name: &str) -> Option<u32>
+        requires { length (table_of self.now class).set.groups ≤ most_groups }
+        ensures { result ≡ position (λ g. bytes_eq g name.now) (table_of self.now class).set.groups }
+    {
+        group_place(self.table(class).groups(), name)
+    }
+
     /// An equal sheet. The shelf doesn't count its places before `hold`; `Err` for want of memory.
     pub fn copy(&self) -> Result<Sheet, AllocError>
         ensures { IfOk result (λ sheet. sheet ≡ self.now) }
@@ -88,5 +128,27 @@ impl Sheet {
         self.prim.release(shelf);
         self.point.release(shelf);
         self.vertex.release(shelf);
+    }
+}
+
+/// The place of the attribute of this name.
+fn head_place(heads: &[Head], name: &str) -> Option<u32>
+    requires { length heads.now ≤ most_heads }
+    ensures { result ≡ position (λ h. bytes_eq h.name name.now) heads.now }
+{
+    match heads.iter().position(|head| head.name.as_str() == name) {
+        Some(place) => Some(place as u32),
+        None => None,
+    }
+}
+
+/// The place of the group of this name.
+fn group_place(groups: &[Text], name: &str) -> Option<u32>
+    requires { length groups.now ≤ most_groups }
+    ensures { result ≡ position (λ g. bytes_eq g name.now) groups.now }
+{
+    match groups.iter().position(|group| group.as_str() == name) {
+        Some(place) => Some(place as u32),
+        None => None,
     }
 }

@@ -1,16 +1,12 @@
 //! A geometry as columns, read.
-ghost use Rattle.std.specs.Prelude.{◌≡◌, ◌<◌, ◌≤◌, length, Some, None, slice_get, position};
-ghost use Rattle.std.specs.Option.{option_map};
-ghost use Rattle.std.specs.Str.{bytes_eq};
-ghost use Rattle.sop_model.specs.Limits.{most_heads, most_groups};
+ghost use Rattle.std.specs.Prelude.{◌≡◌};
 ghost use Rattle.sop_tables.specs.Tables.{IsHeld};
 ghost use Rattle.sop_sheets.specs.Sheets.{geo_of, places_of, IsSheet};
 
 use crate::sheet::Sheet;
 use sop_cells::Shelf;
 use sop_columns::Names;
-use sop_model::{Class, GeoView, Head, Kind, ValueRef};
-use sop_outside::Text;
+use sop_model::{Class, GeoView, Kind, ValueRef};
 use std::marker::Model;
 
 /// A geometry that is kept as columns, to be read. Contracts see the geometry.
@@ -54,11 +50,11 @@ impl<'a> GeoView for GeoRef<'a> {
     ghost geo = { λ g. g };
 
     fn count(&self, class: Class) -> u32 {
-        self.sheet.table(class).count()
+        self.sheet.count(class)
     }
 
     fn heads(&self, class: Class) -> u32 {
-        self.sheet.table(class).heads().len() as u32
+        self.sheet.heads(class) as u32
     }
 
     fn head_name(&self, class: Class, head: u32) -> &str {
@@ -70,11 +66,11 @@ impl<'a> GeoView for GeoRef<'a> {
     }
 
     fn find(&self, class: Class, name: &str) -> Option<u32> {
-        head_place(self.sheet.table(class).heads(), name)
+        self.sheet.find(class, name)
     }
 
     fn groups(&self, class: Class) -> u32 {
-        self.sheet.table(class).groups().len() as u32
+        self.sheet.groups(class) as u32
     }
 
     fn group_name(&self, class: Class, group: u32) -> &str {
@@ -82,7 +78,7 @@ impl<'a> GeoView for GeoRef<'a> {
     }
 
     fn find_group(&self, class: Class, name: &str) -> Option<u32> {
-        group_place(self.sheet.table(class).groups(), name)
+        self.sheet.find_group(class, name)
     }
 
     fn value(&self, class: Class, head: u32, element: u32) -> ValueRef<'_> {
@@ -113,27 +109,5 @@ impl<'a> GeoView for GeoRef<'a> {
 
     fn prim_of(&self, vertex: u32) -> u32 {
         self.sheet.shape().prim_of(vertex)
-    }
-}
-
-/// The place of the attribute of this name.
-fn head_place(heads: &[Head], name: &str) -> Option<u32>
-    requires { length heads.now ≤ most_heads }
-    ensures { result ≡ position (λ h. bytes_eq h.name name.now) heads.now }
-{
-    match heads.iter().position(|head| head.name.as_str() == name) {
-        Some(place) => Some(place as u32),
-        None => None,
-    }
-}
-
-/// The place of the group of this name.
-fn group_place(groups: &[Text], name: &str) -> Option<u32>
-    requires { length groups.now ≤ most_groups }
-    ensures { result ≡ position (λ g. bytes_eq g name.now) groups.now }
-{
-    match groups.iter().position(|group| group.as_str() == name) {
-        Some(place) => Some(place as u32),
-        None => None,
     }
 }
