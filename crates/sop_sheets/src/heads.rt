@@ -51,7 +51,13 @@ impl Sheet {
 
     /// Adds a group of a new name behind the others of its class, of which there must be fewer than 256. It has no member. `Err` for
     /// want of memory: then nothing changed.
-    pub fn add_group(&mut self, class: Class, name: Text, shelf: &Shelf<'_>, names: &Names) -> Result<(), AllocError>
+    pub fn add_group(
+        &mut self,
+        class: Class,
+        name: Text,
+        shelf: &Shelf<'_>,
+        names: &Names,
+    ) -> Result<(), AllocError>
         requires sheet { IsSheet shelf.now names.now self.old }
         requires held { IsHeld shelf.now (places_of self.old) }
         requires class { HasGroups class }

@@ -166,7 +166,7 @@ sheet_few s n sheet is =
     let last = ap length (own-append (places_in sheet.point) (places_in sheet.vertex)) ∙ length-append C D in
     let more = ap length (own-append (places_in sheet.prim) (places_in sheet.point ++ places_in sheet.vertex)) ∙ length-append B (own (places_in sheet.point ++ places_in sheet.vertex)) in
     let whole : length (own (places_of sheet)) ≡ length A + length (own (places_in sheet.prim ++ (places_in sheet.point ++ places_in sheet.vertex))) =
-        ap length (own-append (places_in sheet.detail) (places_in sheet.prim ++ (places_in sheet.point ++ places_in sheet.vertex))) ∙ length-append A (own (places_in sheet.prim ++ (places_in sheet.point ++ places_in sheet.vertex))) in
+    ap length (own-append (places_in sheet.detail) (places_in sheet.prim ++ (places_in sheet.point ++ places_in sheet.vertex))) ∙ length-append A (own (places_in sheet.prim ++ (places_in sheet.point ++ places_in sheet.vertex))) in
     omega arith
 
 slot_few : (s : ShelfPages) (n : NameTable) (o : Option SheetLists) → IsSlot IsSheet s n o → length (own (slot_places places_of o)) ≤ sheet_room
