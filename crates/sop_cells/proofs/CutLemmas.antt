@@ -85,13 +85,14 @@ cut_paged (b ∷ c ∷ bs) zero keep p e k h = absurd (omega arith)
 cut_paged (b ∷ c ∷ bs) (suc m) keep p e k h = let f = p.1 (omega arith) in (p.0, (λ z. f), cut_paged (c ∷ bs) m keep p.2 (omega arith) k h)
 
 -- how many of the first pages can stand whole behind others: none
-pub whole_none : (bs : List (List Cell)) (before len : ℕ) → AreWhole bs before len 0
-whole_none bs before len = record { within = omega arith; few = omega arith; even = inr refl; parts = (let z : len - 0 * 1024 ≡ len = omega arith in ap (λ (n : ℕ). take n (joined bs)) z); shape = inl tt }
+pub whole_none : (bs : List (List Cell)) (before len : ℕ) → 0 < before % 1024 → AreWhole bs before len 0
+whole_none bs before len odd = record { within = omega arith; most = λ e. absurd (omega arith); few = omega arith; even = inr refl; parts = (let z : len - 0 * 1024 ≡ len = omega arith in ap (λ (n : ℕ). take n (joined bs)) z); shape = inl tt }
 
 -- the full ones
-pub whole_full : (bs : List (List Cell)) (before len k : ℕ) → IsPaged bs → before % 1024 ≤ 0 → 1024 * k ≤ len → len ≤ length (joined bs) → AreWhole bs before len k
-whole_full bs before len k p even h l = record {
+pub whole_full : (bs : List (List Cell)) (before len k : ℕ) → IsPaged bs → before % 1024 ≤ 0 → 1024 * k ≤ len → len ≤ length (joined bs) → len / 1024 ≤ k → AreWhole bs before len k
+whole_full bs before len k p even h l full = record {
   within = first_within bs k p (omega arith);
+  most = λ e. full;
   few = omega arith;
   even = inl (omega arith);
   parts = sym (take_over (joined (take k bs)) (joined (drop k bs)) len (len - k * 1024) (let a = length_first bs k p (omega arith) in omega arith)) ∙ ap (λ (cs : List Cell). take len cs) (joined_parts bs k);
@@ -105,6 +106,7 @@ whole_all bs before len k p even h e l m =
     let long = count_last bs k p last in
     record {
       within = omega arith;
+      most = λ e. omega arith;
       few = let s = some_at bs k p h in omega arith;
       even = inl (omega arith);
       parts = (λ i. joined (all_taken last i) ++ take (len - (k + 1) * 1024) (joined (none_left last i))) ∙ (λ i. joined bs ++ no_cells (len - (k + 1) * 1024) i) ∙ append-nil (joined bs) ∙ sym (take_all_of (joined bs) len (omega arith));

@@ -1,6 +1,7 @@
 -- Columns of the first cells of two columns, and of cells that are picked.
 use Rattle.std.proofs.Common.{◌≡◌, ℕ, zero, suc, ◌-◌, ◌*◌, ◌/◌, ◌%◌, ◌<◌, ◌≤◌, List, [], ◌∷◌, ◌++◌, All, length, map, take, drop, get_or, refl, ap, sym, ◌∙◌, subst, arith, append_assoc, length-drop, inl, inr}
-use Rattle.std.specs.Prelude.{◌⊎◌}
+use Rattle.std.specs.Prelude.{◌⊎◌, ◌==◌, if◌then◌else◌}
+use Rattle.std.proofs.lemmas.Bool.Decides.{nat_tests}
 use Rattle.std.proofs.lemmas.List.{append-nil, map-append, take-append-drop}
 use Rattle.std.proofs.lemmas.List.Elements.{All-get_or}
 use Rattle.std.proofs.Math.Seq.{take-append_seam, take-length}
@@ -74,6 +75,10 @@ module _ (s t : ShelfPages) (xs ys c : List Place) (len more_len j left : ℕ) (
 
   pub joined_kept : IsKept t c
   joined_kept = laid_kept s t (take (len / 1024) xs ++ take j ys) c pages laid joined_paged
+
+-- how many whole pages can be shared behind other cells
+pub shared_most : (len more_len first : ℕ) → (len % 1024 ≡ 0 → more_len / 1024 ≤ first) → (if len % 1024 == 0 then more_len / 1024 else 0) ≤ first
+shared_most len more_len first most = grind (arith, nat_tests)
 
 -- numbers that are all below a bound, the first of them in order
 pub in_order_within : (bound : ℕ) (numbers : List ℕ) (n : ℕ) → All (λ i. i < bound) numbers → n ≤ length numbers → ((i : ℕ) → i < n → get_or numbers i 0 ≡ i) → n ≤ bound

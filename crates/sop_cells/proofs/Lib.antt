@@ -5,6 +5,7 @@ pub mod SpotLemmas
 pub mod SpareLemmas
 pub mod LaidLemmas
 pub mod CutLemmas
+pub mod CopyLemmas
 pub mod PartLemmas
 pub mod JoinLemmas
 pub mod FrameLemmas

@@ -99,6 +99,10 @@ module _ (s : ShelfPages) (xs : List Place) (k : ℕ) (kept : IsKept s xs) (h : 
         part_column ∙ ap (λ r. column s (take k xs) ++ r) is ∙ sym (append_assoc (column s (take k xs)) (column s (drop k xs)) (replicate more cell))
         ∙ ap (λ r. r ++ replicate more cell) (column_parts s xs k)
 
+-- how many the first places are
+pub part_count : (s : ShelfPages) (xs places : List Place) (k : ℕ) → IsKept s xs → 1024 * k ≤ length (column s xs) → places ≡ take k xs → length places ≡ k
+part_count s xs places k kept h e = ap (λ (ps : List Place). length ps) e ∙ length-take-le k xs (part_within s xs k kept h)
+
 -- a column that is held once more
 pub again_blocks : (s t : ShelfPages) (xs : List Place) → IsKept s xs → Shifts s t [] xs → blocks t xs ≡ blocks s xs
 again_blocks s t xs kept m = kept_beside s t [] xs xs m (λ x h. let c = kept.covered.each x in omega arith)

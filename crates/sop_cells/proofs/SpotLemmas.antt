@@ -1,6 +1,6 @@
 -- The place and the cell that a number of a column leads to.
 use Rattle.std.proofs.Common.{◌≡◌, ℕ, zero, suc, ◌+◌, ◌/◌, ◌%◌, ◌<◌, ◌≤◌, List, [], ◌∷◌, length, set, get_or, refl, ap, sym, ◌∙◌, subst, arith, mod-lt, length-set}
-use Rattle.std.proofs.lemmas.List.{length-map, get_or-map}
+use Rattle.std.proofs.lemmas.List.{length-map, get_or-map, get_or_default}
 use Rattle.std.proofs.Math.Nat.{div-add-mod}
 use Rattle.sop_pages.specs.declared.cell.Cell.{Cell}
 use Rattle.sop_pages.specs.Pages.{Store, cells, count}
@@ -105,3 +105,7 @@ place_here s places k p kept h at = here_at s places k p (λ x l. let c = kept.c
 
 pub place_page : (s : ShelfPages) (places : List Place) (k : ℕ) (p : Place) → k < length places → p ≡ get_or places k p → get_or (blocks s places) k [] ≡ cells_at s p
 place_page s places k p h at = get_or-map (cells_at s) places k p [] h ∙ ap (cells_at s) (sym at)
+
+-- what stands at a place of the row is one place
+pub same_place : (xs : List Place) (k : ℕ) (p q : Place) → k < length xs → p ≡ get_or xs k p → q ≡ get_or xs k q → p ≡ q
+same_place xs k p q h at here = at ∙ get_or_default xs k p q h ∙ sym here

@@ -1,5 +1,5 @@
 -- How a new column is laid out: places that are held once more, and behind them new pages.
-use Rattle.std.specs.Prelude.{◌≡◌, ℕ, ◌+◌, ◌-◌, ◌*◌, ◌%◌, ◌⊎◌, ◌<◌, ◌≤◌, ◌^◌, List, [], ◌∷◌, ◌++◌, length, take, drop, Option, Some, None, slice_index_or}
+use Rattle.std.specs.Prelude.{◌≡◌, ℕ, ◌+◌, ◌-◌, ◌*◌, ◌/◌, ◌%◌, ◌⊎◌, ◌<◌, ◌≤◌, ◌^◌, List, [], ◌∷◌, ◌++◌, length, take, drop, Option, Some, None, slice_index_or}
 use Rattle.sop_pages.specs.declared.cell.Cell.{Cell}
 use Rattle.sop_pages.specs.declared.page.TheConstants.{MOST_CELLS}
 use Rattle.sop_pages.specs.Pages.{count}
@@ -44,9 +44,11 @@ pub record AreCopies (s : ShelfPages) (places : List Place) (copies : List (Opti
   pub each : (i : ℕ) (place : Place) → i < length places → place ≡ slice_index_or places i place → IsCopy s place (slice_index_or copies i None)
 
 -- The first `first` pages can stand whole behind `before` cells, where the first `len` cells of all pages are wanted:
--- the cells before fill whole pages, or none is wanted whole; and these pages are full, or nothing follows them.
+-- the cells before fill whole pages, and all that are wanted whole are among them, or none can; and these pages are full,
+-- or nothing follows them.
 pub record AreWhole (pages : List (List Cell)) (before len first : ℕ) : Type 0 where
   pub within : first ≤ length pages
+  pub most : before % MOST_CELLS ≡ 0 → len / MOST_CELLS ≤ first
   pub few : first * MOST_CELLS < len + MOST_CELLS
   pub even : (before % MOST_CELLS ≡ 0) ⊎ (first ≡ 0)
   pub parts : joined (take first pages) ++ take (len - first * MOST_CELLS) (joined (drop first pages)) ≡ take len (joined pages)

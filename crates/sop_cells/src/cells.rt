@@ -1,14 +1,15 @@
 //! Columns of cells on a shelf.
-ghost use Rattle.std.specs.Prelude.{◌≡◌, ◌∷◌, ℕ, ◌+◌, ◌-◌, ◌*◌, ◌^◌, ◌<◌, ◌≤◌, [], ◌++◌, All, length, map, take, drop, replicate, slice_index_or, slice_set, vec_len, vec_capacity, ◌⊎◌, None, IfOk, IfErr, OnOk, OnErr};
+ghost use Rattle.std.specs.Prelude.{◌≡◌, ◌∷◌, ℕ, ◌+◌, ◌-◌, ◌*◌, ◌^◌, ◌<◌, ◌≤◌, [], ◌++◌, All, length, map, take, drop, replicate, slice_index_or, slice_set, vec_len, vec_capacity, ◌/◌, ◌%◌, ◌==◌, if◌then◌else◌, None, IsOk, IfOk, IfErr, OnOk, OnErr};
 ghost use Rattle.sop_pages.specs.declared.cell.Cell.TheVariants.{Name};
 ghost use Rattle.sop_pages.specs.declared.page.TheConstants.{MOST_CELLS};
 ghost use Rattle.sop_pages.specs.Pages.{count, live_pages};
 ghost use Rattle.sop_pages.specs.Moves.{times, Covers};
+ghost use Rattle.sop_cells.specs.declared.place.Place.{Place};
 ghost use Rattle.sop_cells.specs.Places.{own, AreBased};
-ghost use Rattle.sop_cells.specs.Layouts.{CanHold, IsLaid, AreWhole, IsCopy, AreCopies, packed_cells};
-ghost use Rattle.sop_cells.specs.Shelves.{IsHere, cells_at, blocks, joined, column, shared, IsPaged, IsKept, Shifts};
+ghost use Rattle.sop_cells.specs.Layouts.{CanHold, IsLaid, AreFull, AreWhole, IsCopy, AreCopies, packed_cells};
+ghost use Rattle.sop_cells.specs.Shelves.{IsHere, count_at, cells_at, blocks, joined, column, shared, IsPaged, IsKept, Shifts};
 
-use crate::packer::Packer;
+use crate::packer::{Packer, lesser};
 use crate::place::Place;
 use crate::shelf::Shelf;
 use sop_outside::Items;
@@ -47,9 +48,7 @@ impl Cells {
         ensures pages { IfOk result (λ c. live_pages shelf.new.own ≡ live_pages shelf.old.own + length c) }
         ensures err { OnErr result (shelf.new ≡ shelf.old) }
     {
-        let mut packer = Packer::new(alloc);
-        packer.push_copies(&cell, len as u64)?;
-        let pages = packer.finish()?;
+        let pages = filled_pages(alloc, cell, len)?;
         let Ok(cells) = Cells::from_pages(alloc, pages, shelf) else {
             return Err(AllocError);
         };
@@ -100,6 +99,8 @@ impl Cells {
         ensures shifts { Shifts shelf.old shelf.new self.old self.new }
         ensures pages { live_pages shelf.new.own ≤ live_pages shelf.old.own + 1 }
         ensures spare { live_pages shelf.new.own + shared shelf.new self.new ≤ live_pages shelf.old.own + shared shelf.old self.old }
+        ensures single { (place : Place) → place ≡ slice_index_or self.old (i / MOST_CELLS) place → count_at shelf.old place ≡ 1
+            → IsOk result × (self.new ≡ self.old) }
         ensures falls { (id : ℕ) → 1 ≤ count shelf.old.own id → count shelf.new.own id ≤ count shelf.old.own id }
         ensures rises { live_pages shelf.old.own ≤ live_pages shelf.new.own }
         ensures err { OnErr result ((shelf.new ≡ shelf.old) × (self.new ≡ self.old)) }
@@ -145,8 +146,8 @@ impl Cells {
     }
 
     /// A column of the same cells and, behind them, of copies of `cell`, `len` cells in all at least, on no more pages than
-    /// `len` cells need. Full pages are shared. The last page has a power of two of cells where it is new, so that a
-    /// column that grows one by one is copied as seldom as a `Vec`.
+    /// `len` cells need. Full pages are shared. A new page is full at once, but the first of a column, which has a power of
+    /// two of cells: so a column that grows one by one is copied as seldom as a `Vec`.
     pub fn extended(&self, shelf: &mut Shelf<'_>, cell: Cell, len: u32) -> Result<Cells, AllocError>
         requires kept { IsKept shelf.old self.now }
         requires within { length (column shelf.old self.now) ≤ len }
@@ -155,6 +156,8 @@ impl Cells {
             ≡ column shelf.old self.now ++ replicate (length (column shelf.new c) - length (column shelf.old self.now)) cell) }
         ensures enough { IfOk result (λ c. len ≤ length (column shelf.new c)) }
         ensures tight { IfOk result (λ c. MOST_CELLS * length c < len + MOST_CELLS) }
+        ensures pages { IfOk result (λ c. live_pages shelf.new.own + length (column shelf.old self.now) / MOST_CELLS
+            ≤ live_pages shelf.old.own + length c) }
         ensures kept { IfOk result (λ c. IsKept shelf.new c) }
         ensures shifts { IfOk result (λ c. Shifts shelf.old shelf.new [] c) }
         ensures err { OnErr result (shelf.new ≡ shelf.old) }
@@ -183,6 +186,8 @@ impl Cells {
         requires room { (id : ℕ) → count shelf.old.own id + times id (own self.now) + times id (own more.now) < 2 ^ 128 }
         ensures cells { IfOk result (λ c. column shelf.new c
             ≡ take len (column shelf.old self.now) ++ take more_len (column shelf.old more.now)) }
+        ensures pages { IfOk result (λ c. live_pages shelf.new.own + len / MOST_CELLS
+            + (if len % MOST_CELLS == 0 then more_len / MOST_CELLS else 0) ≤ live_pages shelf.old.own + length c) }
         ensures kept { IfOk result (λ c. IsKept shelf.new c) }
         ensures shifts { IfOk result (λ c. Shifts shelf.old shelf.new [] c) }
         ensures err { OnErr result (shelf.new ≡ shelf.old) }
@@ -190,8 +195,9 @@ impl Cells {
         let first = (len / MOST_CELLS) as usize;
         let more_first = more.pages_behind(len, shelf, more_len);
         let left = (more_len as usize).saturating_sub(more_first * MOST_CELLS as usize);
-        let mut packer = Packer::new(self.alloc);
-        self.push_rest(shelf, first, (len % MOST_CELLS) as usize, &mut packer)?;
+        let rest = (len % MOST_CELLS) as usize;
+        let mut packer = Packer::new(self.alloc, rest + left)?;
+        self.push_rest(shelf, first, rest, &mut packer)?;
         more.push_rest(shelf, more_first, left, &mut packer)?;
         let pages = packer.finish()?;
         let mut places = self.first_places(first)?;
@@ -200,20 +206,24 @@ impl Cells {
         Ok(cells)
     }
 
-    /// A column of the cells with these numbers, in this order.
+    /// A column of the cells with these numbers, in this order. Whole pages are shared as far as the first numbers are
+    /// those of the first cells in order.
     pub fn picked(&self, shelf: &mut Shelf<'_>, numbers: &[u32]) -> Result<Cells, AllocError>
         requires kept { IsKept shelf.old self.now }
         requires within { All (λ i. i < length (column shelf.old self.now)) numbers.now }
         requires room { (id : ℕ) → count shelf.old.own id + times id (own self.now) < 2 ^ 128 }
         ensures cells { IfOk result (λ c. column shelf.new c
             ≡ map (λ i. slice_index_or (column shelf.old self.now) i (Name 0)) numbers.now) }
+        ensures pages { (n : ℕ) → n ≤ length numbers.now → ((i : ℕ) → i < n → slice_index_or numbers.now i 0 ≡ i)
+            → IfOk result (λ c. live_pages shelf.new.own + n / MOST_CELLS ≤ live_pages shelf.old.own + length c) }
         ensures kept { IfOk result (λ c. IsKept shelf.new c) }
         ensures shifts { IfOk result (λ c. Shifts shelf.old shelf.new [] c) }
         ensures err { OnErr result (shelf.new ≡ shelf.old) }
     {
         let first = in_order(numbers) / MOST_CELLS as usize;
-        let mut packer = Packer::new(self.alloc);
-        self.push_picked(shelf, &numbers[first * MOST_CELLS as usize..], &mut packer)?;
+        let behind = &numbers[first * MOST_CELLS as usize..];
+        let mut packer = Packer::new(self.alloc, behind.len())?;
+        self.push_picked(shelf, behind, &mut packer)?;
         let pages = packer.finish()?;
         let places = self.first_places(first)?;
         let cells = laid(self.alloc, places, pages, shelf)?;
@@ -282,6 +292,7 @@ impl Cells {
         requires room { (id : ℕ) → count shelf.old.own id + times id (own self.now) < 2 ^ 128 }
         ensures cells { IfOk result (λ c. column shelf.new c ≡ column shelf.old self.now) }
         ensures len { IfOk result (λ c. length c ≡ length self.now) }
+        ensures pages { OnOk result (live_pages shelf.new.own ≡ live_pages shelf.old.own) }
         ensures kept { IfOk result (λ c. IsKept shelf.new c) }
         ensures shifts { IfOk result (λ c. Shifts shelf.old shelf.new [] c) }
         ensures err { OnErr result (shelf.new ≡ shelf.old) }
@@ -307,14 +318,18 @@ impl Cells {
             ≡ column shelf.old self.now ++ replicate (length (column shelf.new c) - length (column shelf.old self.now)) cell) }
         ensures enough { IfOk result (λ c. len ≤ length (column shelf.new c)) }
         ensures tight { IfOk result (λ c. MOST_CELLS * length c < len + MOST_CELLS) }
+        ensures pages { IfOk result (λ c. live_pages shelf.new.own + length (column shelf.old self.now) / MOST_CELLS
+            ≤ live_pages shelf.old.own + length c) }
         ensures kept { IfOk result (λ c. IsKept shelf.new c) }
         ensures shifts { IfOk result (λ c. Shifts shelf.old shelf.new [] c) }
         ensures err { OnErr result (shelf.new ≡ shelf.old) }
     {
         let first = (old_len / MOST_CELLS) as usize;
-        let mut packer = Packer::new(self.alloc);
-        self.push_rest(shelf, first, (old_len % MOST_CELLS) as usize, &mut packer)?;
-        packer.push_copies(&cell, extent(len) - old_len as u64)?;
+        let rest = (old_len % MOST_CELLS) as usize;
+        let more = (extent(len) - old_len as u64) as usize;
+        let mut packer = Packer::new(self.alloc, rest + more)?;
+        self.push_rest(shelf, first, rest, &mut packer)?;
+        packer.push_copies(&cell, more)?;
         let pages = packer.finish()?;
         let places = self.first_places(first)?;
         let cells = laid(self.alloc, places, pages, shelf)?;
@@ -391,6 +406,7 @@ fn laid(
 ) -> Result<Cells, AllocError>
     requires { CanHold shelf.old first.items }
     ensures laid { IfOk result (λ c. IsLaid shelf.old shelf.new first.items pages c) }
+    ensures pages { IfOk result (λ c. live_pages shelf.new.own + length first.items ≡ live_pages shelf.old.own + length c) }
     ensures err { OnErr result (shelf.new ≡ shelf.old) }
 {
     let held = first.len();
@@ -445,30 +461,49 @@ fn push_first(
     Ok(())
 }
 
-fn lesser(a: usize, b: usize) -> usize
-    ensures first { result ≤ a }
-    ensures second { result ≤ b }
-    ensures one { (result ≡ a) ⊎ (result ≡ b) }
-{
-    if a < b { a } else { b }
-}
-
-// How many cells a column of `len` cells has where its last page is new: that page has a power of two of them.
+// How many cells a column of `len` cells has where its last page is new: that page is full, or has a power of two of
+// cells where it is the column's first.
 fn extent(len: u32) -> u64
     ensures enough { len ≤ result }
     ensures tight { (pages : ℕ) → MOST_CELLS * pages < result + MOST_CELLS → MOST_CELLS * pages < len + MOST_CELLS }
 {
+    if len == 0 || len >= MOST_CELLS {
+        return len.div_ceil(MOST_CELLS) as u64 * MOST_CELLS as u64;
+    }
+    len.next_power_of_two() as u64
+}
+
+// Pages of `len` times the same cell, full but the last.
+fn filled_pages(alloc: Global, cell: Cell, len: u32) -> Result<PageList, AllocError>
+    ensures cells { IfOk result (λ pages. joined pages ≡ replicate len cell) }
+    ensures paged { IfOk result (λ pages. IsPaged pages) }
+{
+    let mut pages = full_pages(alloc, cell, len / MOST_CELLS)?;
     let rest = len % MOST_CELLS;
     if rest == 0 {
-        return len as u64;
+        return Ok(pages);
     }
-    (len - rest) as u64 + rest.next_power_of_two() as u64
+    pages.add(Page::filled(alloc, cell, rest)?)?;
+    Ok(pages)
+}
+
+// `count` full pages of the same cell.
+fn full_pages(alloc: Global, cell: Cell, count: u32) -> Result<PageList, AllocError>
+    ensures cells { IfOk result (λ pages. joined pages ≡ replicate (count * MOST_CELLS) cell) }
+    ensures full { IfOk result (λ pages. AreFull pages) }
+{
+    let mut pages = PageList::new(alloc);
+    for _page in 0..count {
+        pages.add(Page::filled(alloc, cell, MOST_CELLS)?)?;
+    }
+    Ok(pages)
 }
 
 // How many numbers stand at the place that they name, before one that doesn't.
 fn in_order(numbers: &[u32]) -> usize
     ensures within { result ≤ length numbers.now }
     ensures each { (i : ℕ) → i < result → slice_index_or numbers.now i 0 ≡ i }
+    ensures most { (n : ℕ) → n ≤ length numbers.now → ((i : ℕ) → i < n → slice_index_or numbers.now i 0 ≡ i) → n ≤ result }
 {
     for i in 0..numbers.len() {
         if numbers[i] as usize != i {

@@ -1,5 +1,5 @@
 //! Cells that are set into pages one after another.
-ghost use Rattle.std.specs.Prelude.{◌≡◌, ◌∷◌, ◌++◌, ◌<◌, [], length, replicate, IfOk, OnOk};
+ghost use Rattle.std.specs.Prelude.{◌≡◌, ◌∷◌, ◌++◌, ◌<◌, ◌≤◌, ◌+◌, ◌⊎◌, [], length, replicate, IfOk, OnOk};
 ghost use Rattle.sop_pages.specs.declared.page.TheConstants.{MOST_CELLS};
 ghost use Rattle.sop_cells.specs.Shelves.{joined, IsPaged};
 ghost use Rattle.sop_cells.specs.Layouts.{packed_cells};
@@ -15,6 +15,8 @@ use std::mem;
 pub(crate) struct Packer {
     full: Vec<Page>,
     rest: Vec<Cell>,
+    // So many cells are to come behind the open page; its memory is taken at once.
+    coming: usize,
     alloc: Global,
 }
 
@@ -31,15 +33,18 @@ impl Model for Packer {
 }
 
 impl Packer {
-    /// No cells.
-    pub(crate) fn new(alloc: Global) -> Packer
-        ensures { packed_cells result ≡ [] }
+    /// No cells, where about `coming` are to come.
+    pub(crate) fn new(alloc: Global, coming: usize) -> Result<Packer, AllocError>
+        ensures { IfOk result (λ p. packed_cells p ≡ []) }
     {
-        Packer {
+        let most = MOST_CELLS as usize;
+        let rest = Vec::with_capacity(alloc, lesser(coming, most))?;
+        Ok(Packer {
             full: Vec::new(alloc),
-            rest: Vec::new(alloc),
+            rest,
+            coming: coming.saturating_sub(most),
             alloc,
-        }
+        })
     }
 
     /// Sets a cell behind the others.
@@ -51,23 +56,32 @@ impl Packer {
         Ok(())
     }
 
-    /// Sets cells behind the others.
+    /// Sets cells behind the others, no more than a page has.
     pub(crate) fn push_run(&mut self, run: &[Cell]) -> Result<(), AllocError>
+        requires { length run.now ≤ MOST_CELLS }
         ensures { OnOk result (packed_cells self.new ≡ packed_cells self.old ++ run.now) }
     {
-        for cell in run {
-            self.push(*cell)?;
+        let room = MOST_CELLS as usize - self.rest.len();
+        if run.len() <= room {
+            return self.fill(run);
         }
-        Ok(())
+        let (first, behind) = run.split_at(room);
+        self.fill(first)?;
+        self.make_room()?;
+        self.fill(behind)
     }
 
     /// Sets the same cell behind the others, `count` times.
-    pub(crate) fn push_copies(&mut self, cell: &Cell, count: u64) -> Result<(), AllocError>
+    pub(crate) fn push_copies(&mut self, cell: &Cell, count: usize) -> Result<(), AllocError>
         ensures { OnOk result (packed_cells self.new ≡ packed_cells self.old ++ replicate count cell.now) }
     {
-        for _i in 0..count {
-            self.push(*cell)?;
+        let most = MOST_CELLS as usize;
+        let len = lesser(count, most);
+        let run = run_of(self.alloc, *cell, len)?;
+        for _page in 0..count / most {
+            self.push_run(&run)?;
         }
+        self.push_run(&run[..count % most])?;
         Ok(())
     }
 
@@ -85,16 +99,45 @@ impl Packer {
         Ok(Items::from_vec(pages))
     }
 
-    // Leaves room for a cell in the open page.
+    // Sets cells into the open page, where there is room for them.
+    fn fill(&mut self, run: &[Cell]) -> Result<(), AllocError>
+        requires { length self.old.rest + length run.now ≤ MOST_CELLS }
+        ensures cells { OnOk result (packed_cells self.new ≡ packed_cells self.old ++ run.now) }
+        ensures rest { OnOk result (self.new.rest ≡ self.old.rest ++ run.now) }
+    {
+        self.rest.extend_from_slice(run)
+    }
+
+    // Leaves room for a cell in the open page: a full one is set behind the others, and the next is opened.
     fn make_room(&mut self) -> Result<(), AllocError>
         ensures cells { OnOk result (packed_cells self.new ≡ packed_cells self.old) }
         ensures room { OnOk result (length self.new.rest < MOST_CELLS) }
+        ensures next { OnOk result (length self.old.rest ≡ MOST_CELLS → self.new.rest ≡ []) }
     {
-        if self.rest.len() < MOST_CELLS as usize {
+        let most = MOST_CELLS as usize;
+        if self.rest.len() < most {
             return Ok(());
         }
-        let cells = mem::replace(&mut self.rest, Vec::new(self.alloc));
+        let next = Vec::with_capacity(self.alloc, lesser(self.coming, most))?;
+        self.coming = self.coming.saturating_sub(most);
+        let cells = mem::replace(&mut self.rest, next);
         self.full.push(Page::from_vec(cells))?;
         Ok(())
     }
+}
+
+// `count` times the same cell.
+fn run_of(alloc: Global, cell: Cell, count: usize) -> Result<Vec<Cell>, AllocError>
+    ensures { IfOk result (λ run. run.items ≡ replicate count cell) }
+{
+    vec![in alloc; cell; count]
+}
+
+/// The lesser of the two.
+pub(crate) fn lesser(a: usize, b: usize) -> usize
+    ensures first { result ≤ a }
+    ensures second { result ≤ b }
+    ensures one { (result ≡ a) ⊎ (result ≡ b) }
+{
+    if a < b { a } else { b }
 }

@@ -5,7 +5,7 @@ use Rattle.sop_cells.specs.declared.place.Place.{Place}
 use Rattle.sop_cells.specs.Shelves.{joined, column}
 use Rattle.sop_cells.specs.Layouts.{CanHold, IsLaid}
 use Rattle.sop_cells.proofs.CutLemmas.{take_all_of, longer}
-use Rattle.sop_cells.proofs.PartLemmas.{first_can, part_within, part_rest, part_tight, part_kept, part_grown}
+use Rattle.sop_cells.proofs.PartLemmas.{part_count, first_can, part_within, part_rest, part_tight, part_kept, part_grown}
 use Rattle.sop_cells.proofs.cells.Cells.grown.Goals as goal
 use Rattle.sop_cells.proofs.cells.Cells.grown.Goals.{In_ok-cells}
 
@@ -31,7 +31,7 @@ module _ (c : In_ok-cells) where
   pages_are : joined c.in_ok-pages.pages ≡ column c.args.shelf.now (drop (c.args.old_len / 1024) c.args.self.now) ++ replicate (c.extent.result - c.args.old_len) c.args.cell
   pages_are =
       c.in_ok-pages.ensures.cells ∙ c.in_ok-push_copies.ensures
-      ∙ ap (λ r. r ++ replicate (c.extent.result - c.args.old_len) c.args.cell) (c.in_ok-push_rest.ensures ∙ ap (λ r. r ++ take (c.args.old_len % 1024) (column c.args.shelf.now (drop (c.args.old_len / 1024) c.args.self.now))) c.new-packer.ensures
+      ∙ ap (λ r. r ++ replicate (c.extent.result - c.args.old_len) c.args.cell) (c.in_ok-push_rest.ensures ∙ ap (λ r. r ++ take (c.args.old_len % 1024) (column c.args.shelf.now (drop (c.args.old_len / 1024) c.args.self.now))) c.in_ok-packer.ensures
       ∙ take_all_of (column c.args.shelf.now (drop (c.args.old_len / 1024) c.args.self.now)) (c.args.old_len % 1024) (let a = part_rest c.args.shelf.now c.args.self.now (c.args.old_len / 1024) c.requires.kept below in let e = c.requires.counted in omega arith))
 
   cells_are : column c.laid.new.shelf c.in_ok-cells.cells ≡ column c.args.shelf.now c.args.self.now ++ replicate (c.extent.result - c.args.old_len) c.args.cell
@@ -58,3 +58,8 @@ pub returns-clause-kept : goal.returns-clause-kept
 returns-clause-kept c =
     let w = (goal.at.returns-clause-kept c).In_ok-cells in
     part_kept c.args.shelf.now c.args.self.now (c.args.old_len / 1024) c.requires.kept (below w) c.laid.new.shelf c.in_ok-cells.cells c.in_ok-pages.pages (laid w) c.in_ok-pages.ensures.paged
+
+pub returns-clause-pages : goal.returns-clause-pages
+returns-clause-pages c =
+    let w = (goal.at.returns-clause-pages c).In_ok-cells in let e = c.requires.counted in let p = c.in_ok-cells.ensures.pages in
+    let l = part_count c.args.shelf.now c.args.self.now _ (c.args.old_len / 1024) c.requires.kept (below w) c.in_ok-places.ensures in omega arith

@@ -7,7 +7,7 @@ use Rattle.sop_cells.proofs.PartLemmas.{part_within}
 use Rattle.sop_cells.proofs.cells.Cells.pages_behind.Goals as goal
 
 pub returns-then-full-place_count : goal.returns-then-full-place_count
-returns-then-full-place_count c = whole_full (blocks c.args.shelf.now c.args.self.now) c.args.before c.args.len (c.args.len / 1024) c.requires.kept.paged c.if-before-gt0.false (omega arith) c.requires.within
+returns-then-full-place_count c = whole_full (blocks c.args.shelf.now c.args.self.now) c.args.before c.args.len (c.args.len / 1024) c.requires.kept.paged c.if-before-gt0.false (omega arith) c.requires.within (omega arith)
 
 pub page-page-requires-clause-within : goal.page-page-requires-clause-within
 page-page-requires-clause-within c =
@@ -22,4 +22,4 @@ returns-then-page-len c =
     whole_all (blocks c.args.shelf.now c.args.self.now) c.args.before c.args.len (c.args.len / 1024) c.requires.kept.paged c.if-before-gt0.false (omega arith) (sym q ∙ c.if-page-len.true) (omega arith) (omega arith)
 
 pub returns : goal.returns
-returns c = whole_full (blocks c.args.shelf.now c.args.self.now) c.args.before c.args.len (c.args.len / 1024) c.requires.kept.paged c.if-before-gt0.false (omega arith) c.requires.within
+returns c = whole_full (blocks c.args.shelf.now c.args.self.now) c.args.before c.args.len (c.args.len / 1024) c.requires.kept.paged c.if-before-gt0.false (omega arith) c.requires.within (omega arith)

@@ -1,7 +1,7 @@
-use Rattle.std.proofs.Common.{◌≡◌, ◌<◌, ◌/◌, List, length, get_or, set, ap, sym, subst, arith, ◌∙◌}
+use Rattle.std.proofs.Common.{◌≡◌, refl, true≢false, IsOk, ◌<◌, ◌/◌, List, length, get_or, set, ap, sym, subst, arith, ◌∙◌}
 use Rattle.sop_cells.specs.declared.place.Place.{Place}
-use Rattle.sop_cells.specs.Shelves.{column, shared, IsKept, Shifts}
-use Rattle.sop_cells.proofs.SpotLemmas.{spot_place, spot_here, spot_within, spot_set, spot_count, spot_shifts, spot_kept}
+use Rattle.sop_cells.specs.Shelves.{count_at, column, shared, IsKept, Shifts}
+use Rattle.sop_cells.proofs.SpotLemmas.{same_place, spot_place, spot_here, spot_within, spot_set, spot_count, spot_shifts, spot_kept}
 use Rattle.sop_cells.proofs.SpareLemmas.{spare, set_falls}
 use Rattle.sop_cells.proofs.cells.Cells.set.Goals as goal
 use Rattle.sop_cells.proofs.cells.Cells.set.Goals.{After-index-old, After-self, In_ok-place}
@@ -54,3 +54,8 @@ returns-clause-spare c =
 
 pub returns-clause-falls : goal.returns-clause-falls
 returns-clause-falls c = λ x h. set_falls c.args.shelf.now c.set.new.self c.index-old.result.now c.in_ok-place.place c.in_ok-place.ensures.shifts c.in_ok-place.ensures.alone x h
+
+pub returns-in_err-place-clause-single : goal.returns-in_err-place-clause-single
+returns-in_err-place-clause-single c = λ p here one.
+    let same = same_place c.args.self.now (c.args.i / 1024) p _ (spot_place c.args.shelf.now c.args.self.now c.args.i c.requires.kept c.requires.within) here (at (goal.at.returns-in_err-place-clause-single c).After-index-old) in
+    absurd (true≢false (sym (subst IsOk c.in_err-place.was (subst IsOk (sym (c.set.ensures.single (sym (ap (count_at c.args.shelf.now) same) ∙ one))) refl))))

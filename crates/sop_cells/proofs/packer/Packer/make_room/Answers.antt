@@ -13,11 +13,11 @@ after c = c.in_ok-push.ensures.items ∙ (λ i. c.self.inside.full.items ++ (c.f
 pub invariant_of-self-2 : goal.invariant_of-self-2
 invariant_of-self-2 c = (
   subst AreFull (sym (after (goal.at.invariant_of-self-2 c).In_ok-push)) (full-append c.self.inside.full.items (c.self.inside.rest.items ∷ []) c.self.invariant.0
-      ((let l = c.self.inside.rest.ok.0 in let m = c.len.ensures in let n = c.if-len.false in let k = c.self.invariant.1 in omega arith), tt)),
-  let e = ap (λ (cs : List Cell). length cs) (ap (λ v. v.items) c.replace-cells.ensures.after ∙ c.new.ensures.items) in omega arith,
+      ((let l = c.self.inside.rest.ok.0 in let m = c.len.ensures in let n = c.if-len-most.false in let k = c.self.invariant.1 in omega arith), tt)),
+  let e = ap (λ (cs : List Cell). length cs) (ap (λ v. v.items) c.replace-cells.ensures.after ∙ c.in_ok-next.ensures.items) in omega arith,
 )
 
 pub returns-clause-cells : goal.returns-clause-cells
 returns-clause-cells c =
-    (λ i. joined (after (goal.at.returns-clause-cells c).In_ok-push i) ++ (ap (λ v. v.items) c.replace-cells.ensures.after ∙ c.new.ensures.items) i)
+    (λ i. joined (after (goal.at.returns-clause-cells c).In_ok-push i) ++ (ap (λ v. v.items) c.replace-cells.ensures.after ∙ c.in_ok-next.ensures.items) i)
     ∙ append-nil _ ∙ joined_last c.self.inside.full.items c.self.inside.rest.items ∙ ap packed_cells c.self.view_is
