@@ -47,6 +47,10 @@ pub on_err : {X E P Q : Type 0} (r : Result X E) → (P → Q) → OnErr r P →
 on_err (Ok x) f p = tt
 on_err (Err e) f p = f p
 
+pub err_by : {X E P : Type 0} (r : Result X E) → P → OnErr r P
+err_by (Ok x) p = tt
+err_by (Err e) p = p
+
 pub if_ok : {X E : Type 0} {P Q : X → Type 0} (r : Result X E) → ((x : X) → P x → Q x) → IfOk r P → IfOk r Q
 if_ok (Ok x) f p = f x p
 if_ok (Err e) f p = tt

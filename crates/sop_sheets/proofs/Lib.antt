@@ -3,3 +3,4 @@ pub mod FourLemmas
 pub mod SheetLemmas
 pub mod ViewLemmas
 pub mod CallLemmas
+pub mod MadeLemmas

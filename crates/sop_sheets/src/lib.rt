@@ -4,6 +4,7 @@
 mod cells;
 mod columns;
 mod heads;
+mod made;
 mod sheet;
 mod topology;
 mod view;
