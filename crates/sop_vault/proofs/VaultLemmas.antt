@@ -200,3 +200,28 @@ as_before s n slots after v same is =
       pages = ap (λ (w : VaultMap). w.pages) is_now;
       names = subst (λ (m : NameTable). Grows m n) (ap (λ (w : VaultMap). w.names) same) (grows_none n);
     }
+
+-- NO KEY CHANGED
+
+none_behind : {X : Type 0} (xs : Keyed X) → at xs (length xs) ≡ None
+none_behind [] = refl
+none_behind (x ∷ xs) = none_behind xs
+
+-- names grew, and every page is as it was
+module _ (s t : ShelfPages) (n m : NameTable) (slots : Keyed SheetLists) (c : Counted s n slots) (idle : IsNoStep s t n m) (counted : AreCounted t.own) where
+  pub idle_counted : Counted t m slots
+  idle_counted = step_kept s t n m slots slots c (length slots) None None idle.grows (none_behind slots) (none_behind slots) (λ k ne. refl) idle.shifts counted tt
+
+  pub idle_before : (v : VaultMap) → vault_of s n slots ≡ v → IsAsBefore v (vault_of t m slots)
+  idle_before v same =
+      let ch = step_changed s t n m slots slots c (length slots) None None idle.grows (none_behind slots) (none_behind slots) (λ k ne. refl) idle.shifts counted None refl in
+      subst (λ (w : VaultMap). IsAsBefore w (vault_of t m slots)) same (record {
+        geos = λ k. each k (same_or k (length slots)) ch;
+        held = λ k. refl;
+        pages = same_shelf_pages s t c.pages counted idle.shifts;
+        names = idle.grows;
+      })
+    where
+      each : (k : ℕ) → (k ≡ length slots) ⊎ (k ≢ length slots) → Changed (vault_of s n slots) (vault_of t m slots) (length slots) None → at (all_seen geo_of t m slots) k ≡ at (all_seen geo_of s n slots) k
+      each k (inl e) ch = ap (at (all_seen geo_of t m slots)) e ∙ ch.geos.here ∙ sym (seen_at places_of IsSheet geo_of s n slots (length slots) ∙ ap (option_map (geo_of s n)) (none_behind slots)) ∙ ap (at (all_seen geo_of s n slots)) (sym e)
+      each k (inr d) ch = ch.geos.others k d

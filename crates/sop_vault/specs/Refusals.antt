@@ -1,7 +1,9 @@
 -- Why a call of a vault may be refused, by the geometry that stood there. Want of memory may come from any of them. Of two causes the
 -- one that is named first comes.
-use Rattle.std.specs.Prelude.{⊤, ◌≡◌, ◌≢◌, ℕ, Bool, List, Option, None}
+use Rattle.std.specs.Prelude.{⊤, ◌≡◌, ◌≢◌, ℕ, Bool, false, List, Option, None, codes}
+use Rattle.std.specs.Str.{bytes_eq}
 use Rattle.sop_model.specs.declared.class.Class.{Class}
+use Rattle.sop_model.specs.declared.class.Class.TheVariants.{Detail, Prim, Point, Vertex}
 use Rattle.sop_model.specs.declared.geo.Geo.{Geo}
 use Rattle.sop_model.specs.declared.geo.Head.{Head}
 use Rattle.sop_model.specs.Geometry.{IsWithin}
@@ -65,3 +67,10 @@ abbrev pub rows_refused : Geo → VaultEnd → Type 0
 rows_refused g Limit = PassesLimit g
 rows_refused g Memory = ⊤
 rows_refused g _ = ⊥
+
+-- the name isn't that of the points' `P`
+abbrev pub IsNoPosition : Class → List ℕ → Type 0
+IsNoPosition Point name = bytes_eq (codes "P") name ≡ false
+IsNoPosition Detail name = ⊤
+IsNoPosition Prim name = ⊤
+IsNoPosition Vertex name = ⊤

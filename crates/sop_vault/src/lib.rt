@@ -9,3 +9,6 @@ mod vault_end;
 
 pub use vault::{GeoKey, Vault};
 pub use vault_end::VaultEnd;
+
+#[cfg(test)]
+mod tests;

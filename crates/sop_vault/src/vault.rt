@@ -1,6 +1,8 @@
 //! The vault: keys, shares of geometries, and views.
 ghost use Rattle.std.specs.Prelude.{◌≡◌, ◌+◌, ◌≤◌, [], Some, None, IfOk, IfErr, OnOk, OnErr, IfSome, IsSomeAnd, IsTrue};
+ghost use Rattle.sop_model.specs.Geometry.{empty_geo};
 ghost use Rattle.sop_model.specs.Values.{is_value_within};
+ghost use Rattle.sop_columns.specs.Names.{value_of, IsNumbered, IsThere};
 ghost use Rattle.sop_model.specs.Rows.{value_set, member_set, HasHead, HasGroup, HasElement, IsOfHead};
 ghost use Rattle.sop_vault.specs.declared.vault_end.VaultEnd.TheVariants.{Memory};
 ghost use Rattle.sop_vault.specs.Keyed.{at, IsLive};
@@ -11,6 +13,7 @@ use slab::Slab;
 use sop_cells::Shelf;
 use sop_columns::Names;
 use sop_model::{Class, Value};
+use sop_pages::Cell;
 use sop_sheets::{GeoRef, Sheet};
 use std::alloc::{AllocError, Global};
 use std::marker::Model;
@@ -31,12 +34,22 @@ impl Model for GeoKey {
     ghost inverse = { λ n. record { key = n } };
 }
 
+impl GeoKey {
+    // Its place in the vault.
+    pub(crate) fn number(self) -> usize
+        ensures { result ≡ self }
+    {
+        self.key
+    }
+}
+
 /// Geometries by key.
 #[derive(Drop)]
 pub struct Vault<'b> {
     pub(crate) shelf: Shelf<'b>,
     pub(crate) names: Names,
     pub(crate) sheets: Slab<Sheet>,
+    pub(crate) alloc: Global,
 }
 
 impl<'b> Model for Vault<'b> {
@@ -53,6 +66,8 @@ impl<'b> Vault<'b> {
     /// A vault without geometries. It takes memory from `alloc` when it grows.
     pub fn new(alloc: Global) -> Vault<'b>
         ensures geos { result.geos ≡ [] }
+        ensures texts { result.names.texts ≡ [] }
+        ensures lists { result.names.lists ≡ [] }
         ensures pages { result.pages ≡ 0 }
     {
         let shelf = Shelf::new(alloc);
@@ -61,10 +76,36 @@ impl<'b> Vault<'b> {
             shelf,
             names: Names::new(alloc),
             sheets: Slab::new(alloc),
+            alloc,
         }
     }
 
-    /// A new key of the same geometry. No page is copied.
+    /// A new key of the empty geometry: no element but the detail, and the point attribute `P` alone. `Err` for want of memory: then only
+    /// names may have come.
+    pub fn empty(&mut self) -> Result<GeoKey, AllocError>
+        ensures ok { IfOk result (λ new. Added self.old self.new new (Some empty_geo)) }
+        ensures err { OnErr result (IsAsBefore self.old self.new) }
+    {
+        self.sheets.reserve(1)?;
+        let made = Sheet::empty(self.alloc, &mut self.shelf, &mut self.names);
+        self.shelf.each_is_counted();
+        let key = self.sheets.insert_reserved(made?);
+        Ok(GeoKey { key })
+    }
+
+    /// The cell that stands for a value in this vault's pages. A text or a list that is there already keeps its number, and another one
+    /// gets the next. No geometry changes. `Err` for want of memory: then only names may have come.
+    pub fn cell(&mut self, value: &Value) -> Result<Cell, AllocError>
+        ensures value { IfOk result (λ cell. value_of self.new.names cell ≡ value.now) }
+        ensures numbered { IfOk result (λ cell. IsNumbered self.new.names cell) }
+        ensures known { IsThere self.old.names value.now → self.new.names ≡ self.old.names }
+        ensures kept { IsAsBefore self.old self.new }
+    {
+        self.shelf.each_is_counted();
+        self.names.cell(value)
+    }
+
+    /// A new key of the same geometry. No page is copied. `Err` for want of memory: then nothing changed.
     pub fn share(&mut self, key: GeoKey) -> Result<GeoKey, AllocError>
         requires { IsLive self.old.geos key }
         ensures ok { IfOk result (λ new. Added self.old self.new new (at self.old.geos key)) }
@@ -114,7 +155,8 @@ impl<'b> Vault<'b> {
         self.shelf.pages()
     }
 
-    /// Makes `value` the value of an element under the attribute with the number `head`, both from 0.
+    /// Makes `value` the value of an element under the attribute with the number `head`, both from 0. `Memory` leaves all as it was, but
+    /// that names may have come.
     pub fn set(
         &mut self,
         key: GeoKey,
@@ -145,7 +187,7 @@ impl<'b> Vault<'b> {
         Ok(set?)
     }
 
-    /// Puts an element into the group with the number `group`, or takes it out of it, both numbers from 0.
+    /// Puts an element into the group with the number `group`, or takes it out of it, both numbers from 0. `Memory` leaves all as it was.
     pub fn set_member(
         &mut self,
         key: GeoKey,
