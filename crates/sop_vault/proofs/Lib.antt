@@ -1,3 +1,4 @@
 pub mod KeyedLemmas
 pub mod StepLemmas
 pub mod VaultLemmas
+pub mod HeadLemmas

@@ -191,8 +191,8 @@ module _ (s : ShelfPages) (n : NameTable) (slots : Keyed SheetLists) (c : Counte
       sheet_kept s t n n [] (places_of sheet) shifts (grows_none n) sheet (λ id h. let a = covered.each id in omega arith) (sheet_here s n slots c key sheet is)
 
 -- nothing changed
-pub as_before : (s : ShelfPages) (n : NameTable) (slots after : Keyed SheetLists) (v : VaultMap) → vault_of s n slots ≡ v → after ≡ slots → IsAsBefore v (vault_of s n after)
-as_before s n slots after v same is =
+pub as_before : (s : ShelfPages) (n : NameTable) (slots now : Keyed SheetLists) (v : VaultMap) → vault_of s n slots ≡ v → now ≡ slots → IsAsBefore v (vault_of s n now)
+as_before s n slots now v same is =
     let is_now = ap (vault_of s n) is ∙ same in
     record {
       geos = λ k. ap (λ (w : VaultMap). at w.geos k) is_now;
@@ -225,3 +225,7 @@ module _ (s t : ShelfPages) (n m : NameTable) (slots : Keyed SheetLists) (c : Co
       each : (k : ℕ) → (k ≡ length slots) ⊎ (k ≢ length slots) → Changed (vault_of s n slots) (vault_of t m slots) (length slots) None → at (all_seen geo_of t m slots) k ≡ at (all_seen geo_of s n slots) k
       each k (inl e) ch = ap (at (all_seen geo_of t m slots)) e ∙ ch.geos.here ∙ sym (seen_at places_of IsSheet geo_of s n slots (length slots) ∙ ap (option_map (geo_of s n)) (none_behind slots)) ∙ ap (at (all_seen geo_of s n slots)) (sym e)
       each k (inr d) ch = ch.geos.others k d
+
+-- a vault is as it is
+pub unchanged : (v : VaultMap) → IsAsBefore v v
+unchanged v = record { geos = λ k. refl; held = λ k. refl; pages = refl; names = grows_none v.names }
