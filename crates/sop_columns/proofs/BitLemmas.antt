@@ -353,3 +353,15 @@ bits_few x [] = omega arith
 bits_few x (None ∷ cs) = let r = bits_few x cs in omega arith
 bits_few x (Some (Own id) ∷ cs) = let r = bits_few x cs in let o = one_time id x in omega arith
 bits_few x (Some (Base id) ∷ cs) = let r = bits_few x cs in omega arith
+
+-- without blocks all flags are off
+pub none_flag : (s : ShelfPages) (cs : List (Option Place)) → cs ≡ [] → (k : ℕ) → flag s cs k ≡ false
+none_flag s cs e k = ap (λ (bs : List (Option Place)). flag s bs k) e ∙ none_on (k % 131072)
+
+-- flags that are all off behind others
+pub joined_off : (now before : ℕ → Bool) (len : ℕ) (more : ℕ → Bool) (n : ℕ) → ((k : ℕ) → now k ≡ before k) → ((k : ℕ) → len ≤ k → before k ≡ false) → ((k : ℕ) → more k ≡ false) → AreJoined now before len more n
+joined_off now before len more n same off none = record {
+  before_are = λ k h. same k;
+  more_are = λ k h. same (len + k) ∙ off (len + k) (omega arith) ∙ sym (none k);
+  beyond_are = λ k h. same k ∙ off k (omega arith);
+}

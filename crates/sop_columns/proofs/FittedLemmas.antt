@@ -1,6 +1,6 @@
 -- Cells that stand for values: they are joined, and the table grows.
 use Rattle.std.proofs.Common.{◌≡◌, ℕ, zero, suc, ◌+◌, ◌-◌, ◌*◌, ◌<◌, ◌≤◌, List, [], ◌∷◌, ◌++◌, length, map, take, drop, get_or, refl, ap, sym, ◌∙◌, subst, arith, length-drop}
-use Rattle.std.specs.Prelude.{All}
+use Rattle.std.specs.Prelude.{All, Option, Some, None, unwrap_or}
 use Rattle.std.proofs.lemmas.List.{append-nil, map-append, map_more, get_or-drop, length-map}
 use Rattle.std.proofs.lemmas.List.Elements.{All-nil, All-append, All-push, All-head, All-tail, All-get_or}
 use Rattle.std.proofs.Math.Seq.{take-add}
@@ -8,10 +8,12 @@ use Rattle.sop_pages.specs.declared.cell.Cell.{Cell}
 use Rattle.sop_pages.specs.Cells.{IsPage}
 use Rattle.sop_model.specs.declared.value.Kind.{Kind}
 use Rattle.sop_model.specs.declared.value.Value.{Value}
+use Rattle.sop_model.specs.declared.value.Value.TheVariants as value
+use Rattle.sop_model.specs.Values.{kind_of, put, default_of}
 use Rattle.sop_cells.specs.Shelves.{joined, IsPaged}
 use Rattle.sop_columns.specs.Names.{NameTable, value_of, IsNumbered, Grows}
-use Rattle.sop_columns.specs.Fitted.{fitted_to, StandsFor}
-use Rattle.sop_columns.proofs.NameLemmas.{value_grows, values_grow, all_numbered_grow}
+use Rattle.sop_columns.specs.Fitted.{fitted_to, IsDefault, StandsFor}
+use Rattle.sop_columns.proofs.NameLemmas.{value_grows, numbered_grows, values_grow, all_numbered_grow}
 
 pub stands_none : (n : NameTable) → StandsFor n [] []
 stands_none n = record { numbered = All-nil (IsNumbered n); values = refl }
@@ -89,3 +91,25 @@ pub stands_page : (base m n : NameTable) (kind : Kind) (column : List Cell) (a b
 stands_page base m n kind column a b c pages after page is numbered g h e s t =
     subst (λ (cells : List Cell). StandsFor n cells (map (fitted_to kind) (take c (map (value_of base) column)))) (sym (ap joined is ∙ joined_push pages page))
     (stands_join base m n kind column a b c (joined pages) page numbered g h e s t)
+
+-- a default stays one while the table grows
+pub default_grows : (m n : NameTable) (kind : Kind) (cell : Cell) → Grows m n → IsDefault m kind cell → IsDefault n kind cell
+default_grows m n kind cell g d = record { numbered = numbered_grows m n cell g d.numbered; value = value_grows m n cell g d.numbered ∙ d.value }
+
+put_own : (v : Value) → put (kind_of v) v ≡ Some v
+put_own (value.Int n) = refl
+put_own (value.Real x) = refl
+put_own (value.Vector v) = refl
+put_own (value.Str text) = refl
+put_own (value.Ints list) = refl
+put_own (value.Reals list) = refl
+put_own (value.Vectors list) = refl
+put_own (value.Strs list) = refl
+
+-- a value of the kind stays
+pub fitted_own : (kind : Kind) (v : Value) → kind_of v ≡ kind → v ≡ fitted_to kind v
+fitted_own kind v e = ap (λ (o : Option Value). unwrap_or o (default_of kind)) (sym (ap (λ (k : Kind). put k v) (sym e) ∙ put_own v))
+
+-- a value that can't be put there gives way to the default
+pub fitted_else : (kind : Kind) (v d : Value) → put kind v ≡ None → d ≡ default_of kind → d ≡ fitted_to kind v
+fitted_else kind v d e is = is ∙ ap (λ (o : Option Value). unwrap_or o (default_of kind)) (sym e)

@@ -10,6 +10,11 @@ use Rattle.sop_columns.specs.Names.{NameTable, value_of, IsNumbered}
 abbrev pub fitted_to : Kind → Value → Value
 fitted_to kind v = unwrap_or (put kind v) (default_of kind)
 
+-- The cell stands for the default of the kind.
+pub record IsDefault (n : NameTable) (kind : Kind) (cell : Cell) : Type 0 where
+  pub numbered : IsNumbered n cell
+  pub value : value_of n cell ≡ default_of kind
+
 -- The cells stand for these values.
 pub record StandsFor (n : NameTable) (cells : List Cell) (vs : List Value) : Type 0 where
   pub numbered : All (IsNumbered n) cells

@@ -1,5 +1,5 @@
 //! Columns of flags.
-ghost use Rattle.std.specs.Prelude.{◌≡◌, ◌≢◌, ℕ, ◌∷◌, ◌++◌, ◌+◌, ◌-◌, ◌*◌, ◌/◌, ◌%◌, ◌^◌, ◌<◌, ◌≤◌, [], true, false, length, replicate, set, Some, None, slice_get, slice_index_or, vec_len, IfOk, OnOk, OnErr};
+ghost use Rattle.std.specs.Prelude.{◌≡◌, ◌≢◌, ℕ, ◌∷◌, ◌++◌, ◌+◌, ◌-◌, ◌*◌, ◌/◌, ◌%◌, ◌^◌, ◌<◌, ◌≤◌, [], true, false, length, replicate, set, Some, None, slice_get, slice_index_or, vec_len, IsTrue, IfOk, OnOk, OnErr};
 ghost use Rattle.sop_pages.specs.declared.page.TheConstants.{MOST_CELLS};
 ghost use Rattle.sop_pages.specs.declared.cell.Cell.TheVariants as cell;
 ghost use Rattle.sop_pages.specs.Pages.{count, live_pages};
@@ -134,6 +134,9 @@ impl BitColumn {
         ensures err { OnErr result (Shifts shelf.old shelf.new [] []) }
     {
         let mut made = BitColumn::empty(self.alloc);
+        if self.has_no_blocks() {
+            return Ok(made);
+        }
         if let Err(error) = self.pick_into(&mut made, shelf, numbers) {
             made.release(shelf);
             return Err(error);
@@ -164,6 +167,9 @@ impl BitColumn {
     {
         let mut made = self.copy()?;
         made.hold(shelf);
+        if more.has_no_blocks() {
+            return Ok(made);
+        }
         if let Err(error) = more.join_into(&mut made, len, shelf, more_len) {
             made.release(shelf);
             return Err(error);
@@ -216,6 +222,13 @@ impl BitColumn {
             made.set(shelf, len + k, on)?;
         }
         Ok(())
+    }
+
+    // Whether there is no block, so that all flags are off.
+    fn has_no_blocks(&self) -> bool
+        ensures { IsTrue result → self.now ≡ [] }
+    {
+        self.blocks.is_empty()
     }
 
     // The place of a block, where the block has a page.
@@ -371,7 +384,8 @@ fn put_one(alloc: Global, shelf: &mut Shelf<'_>, page: Page) -> Result<Place, Al
 fn words_with(alloc: Global, count: u32, word: u128) -> Result<Vec<Cell>, AllocError>
     ensures { IfOk result (λ words. words.items ≡ replicate count (cell.Name 0) ++ cell.Name word ∷ []) }
 {
-    let mut words = vec![in alloc; Cell::Name(0); count as usize]?;
+    let mut words = Vec::with_capacity(alloc, count as usize + 1)?;
+    words.resize(count as usize, Cell::Name(0))?;
     words.push(Cell::Name(word))?;
     Ok(words)
 }

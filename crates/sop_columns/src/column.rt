@@ -1,12 +1,13 @@
 //! Columns of values.
-ghost use Rattle.std.specs.Prelude.{◌≡◌, ℕ, ◌+◌, ◌*◌, ◌^◌, ◌<◌, ◌≤◌, ◌++◌, [], length, map, take, drop, replicate, slice_get, slice_set, Some, All, IfOk, IfErr, OnOk, OnErr};
+ghost use Rattle.std.specs.Prelude.{◌≡◌, ℕ, ◌+◌, ◌*◌, ◌^◌, ◌<◌, ◌≤◌, ◌++◌, [], length, map, take, drop, replicate, ◌/◌, ◌%◌, ◌==◌, if◌then◌else◌, slice_get, slice_index_or, slice_set, Some, All, IsTrue, IsOk, IfOk, IfErr, OnOk, OnErr};
 ghost use Rattle.sop_pages.specs.declared.page.TheConstants.{MOST_CELLS};
-ghost use Rattle.sop_columns.specs.Fitted.{fitted_to, StandsFor};
+ghost use Rattle.sop_columns.specs.Fitted.{fitted_to, IsDefault, StandsFor};
 ghost use Rattle.sop_pages.specs.Pages.{count, live_pages};
 ghost use Rattle.sop_pages.specs.Moves.{times, Covers};
-ghost use Rattle.sop_model.specs.Values.{value_seen, default_of};
+ghost use Rattle.sop_model.specs.Values.{value_seen, kind_of, is_plain, default_of};
+ghost use Rattle.sop_cells.specs.declared.place.Place.{Place};
 ghost use Rattle.sop_cells.specs.Places.{own, AreBased};
-ghost use Rattle.sop_cells.specs.Shelves.{column, blocks, joined, shared, IsPaged, IsKept, Shifts};
+ghost use Rattle.sop_cells.specs.Shelves.{count_at, column, blocks, joined, shared, IsPaged, IsKept, Shifts};
 ghost use Rattle.sop_columns.specs.Names.{NameTable, IsNumbered, Grows};
 ghost use Rattle.sop_columns.specs.Values.{values, values_at, Continues, IsColumn};
 
@@ -66,7 +67,8 @@ impl Column {
     }
 
     /// Makes `value` the value with the number `i`, from 0. Its page is changed in place where no other place holds it, and
-    /// else this column gets a changed page of its own. `Err` for want of memory: then only the table may have grown.
+    /// else this column gets a changed page of its own. `Err` for want of memory: then only the table may have grown. A number
+    /// or a vector takes no memory where its page is changed in place.
     pub fn set(
         &mut self,
         shelf: &mut Shelf<'_>,
@@ -84,6 +86,8 @@ impl Column {
         ensures grows { Grows names.old names.new }
         ensures pages { live_pages shelf.new.own ≤ live_pages shelf.old.own + 1 }
         ensures spare { live_pages shelf.new.own + shared shelf.new self.new ≤ live_pages shelf.old.own + shared shelf.old self.old }
+        ensures single { (place : Place) → place ≡ slice_index_or self.old (i / MOST_CELLS) place → count_at shelf.old place ≡ 1
+            → (self.new ≡ self.old) × (IsTrue (is_plain (kind_of value.now)) → IsOk result) }
         ensures falls { (id : ℕ) → 1 ≤ count shelf.old.own id → count shelf.new.own id ≤ count shelf.old.own id }
         ensures rises { live_pages shelf.old.own ≤ live_pages shelf.new.own }
         ensures err { OnErr result ((shelf.new ≡ shelf.old) × (self.new ≡ self.old)) }
@@ -184,6 +188,8 @@ impl Column {
         ensures enough { IfOk result (λ c. len ≤ length (column shelf.new c)) }
         ensures column { IfOk result (IsColumn shelf.new names.new) }
         ensures tight { IfOk result (λ c. MOST_CELLS * length c < len + MOST_CELLS) }
+        ensures pages { IfOk result (λ c. live_pages shelf.new.own + length (column shelf.old self.now) / MOST_CELLS
+            ≤ live_pages shelf.old.own + length c) }
         ensures shifts { IfOk result (λ c. Shifts shelf.old shelf.new [] c) }
         ensures grows { Grows names.old names.new }
         ensures err { OnErr result (shelf.new ≡ shelf.old) }
@@ -212,6 +218,8 @@ impl Column {
         requires room { (id : ℕ) → count shelf.old.own id + times id (own self.now) + times id (own more.now) < 2 ^ 128 }
         ensures values { (names : NameTable) → IfOk result (λ c. values shelf.new names c ≡ take len (values shelf.old names self.now) ++ take more_len (values shelf.old names more.now)) }
         ensures column { (names : NameTable) → IsColumn shelf.old names self.now → IsColumn shelf.old names more.now → IfOk result (IsColumn shelf.new names) }
+        ensures pages { IfOk result (λ c. live_pages shelf.new.own + len / MOST_CELLS
+            + (if len % MOST_CELLS == 0 then more_len / MOST_CELLS else 0) ≤ live_pages shelf.old.own + length c) }
         ensures shifts { IfOk result (λ c. Shifts shelf.old shelf.new [] c) }
         ensures err { OnErr result (shelf.new ≡ shelf.old) }
     {
@@ -230,6 +238,8 @@ impl Column {
         requires room { (id : ℕ) → count shelf.old.own id + times id (own self.now) < 2 ^ 128 }
         ensures values { (names : NameTable) → IfOk result (λ c. values shelf.new names c ≡ values_at (values shelf.old names self.now) numbers.now) }
         ensures column { (names : NameTable) → IsColumn shelf.old names self.now → IfOk result (IsColumn shelf.new names) }
+        ensures pages { (n : ℕ) → n ≤ length numbers.now → ((i : ℕ) → i < n → slice_index_or numbers.now i 0 ≡ i)
+            → IfOk result (λ c. live_pages shelf.new.own + n / MOST_CELLS ≤ live_pages shelf.old.own + length c) }
         ensures shifts { IfOk result (λ c. Shifts shelf.old shelf.new [] c) }
         ensures err { OnErr result (shelf.new ≡ shelf.old) }
     {
@@ -257,7 +267,8 @@ impl Column {
         ensures grows { Grows names.old names.new }
         ensures err { OnErr result (shelf.new ≡ shelf.old) }
     {
-        let pages = self.converted_pages(kind, len, shelf, names)?;
+        let default = names.default_cell(kind)?;
+        let pages = self.converted_pages(kind, &default, len, shelf, names)?;
         match Column::from_pages(self.alloc, pages, shelf) {
             Ok(column) => Ok(column),
             Err(_) => Err(AllocError),
@@ -269,22 +280,24 @@ impl Column {
     fn converted_pages(
         &self,
         kind: Kind,
+        default: &Cell,
         len: u32,
         shelf: &Shelf<'_>,
         names: &mut Names,
     ) -> Result<PageList, AllocError>
         requires column { IsColumn shelf.now names.old self.now }
+        requires default { IsDefault names.old kind default.now }
         requires within { len ≤ length (column shelf.now self.now) }
         ensures stands { IfOk result (λ pages. StandsFor names.new (joined pages) (map (fitted_to kind) (take len (values shelf.now names.old self.now)))) }
         ensures paged { IfOk result IsPaged }
         ensures grows { Grows names.old names.new }
     {
-        let mut pages = self.converted_full(kind, len / MOST_CELLS, shelf, names)?;
+        let mut pages = self.converted_full(kind, default, len / MOST_CELLS, shelf, names)?;
         let start = MOST_CELLS * (len / MOST_CELLS);
         if start == len {
             return Ok(pages);
         }
-        let cells = self.converted_run(kind, start, len - start, shelf, names)?;
+        let cells = self.converted_run(kind, default, start, len - start, shelf, names)?;
         pages.add(Page::from_vec(cells))?;
         Ok(pages)
     }
@@ -294,11 +307,13 @@ impl Column {
     fn converted_full(
         &self,
         kind: Kind,
+        default: &Cell,
         count: u32,
         shelf: &Shelf<'_>,
         names: &mut Names,
     ) -> Result<PageList, AllocError>
         requires column { IsColumn shelf.now names.old self.now }
+        requires default { IsDefault names.old kind default.now }
         requires within { MOST_CELLS * count ≤ length (column shelf.now self.now) }
         requires fits { MOST_CELLS * count < 2 ^ 32 }
         ensures stands { IfOk result (λ pages. StandsFor names.new (joined pages) (map (fitted_to kind) (take (MOST_CELLS * count) (values shelf.now names.old self.now)))) }
@@ -307,7 +322,14 @@ impl Column {
     {
         let mut pages = PageList::new(self.alloc);
         for page in 0..count {
-            let cells = self.converted_run(kind, MOST_CELLS * page, MOST_CELLS, shelf, names)?;
+            let cells = self.converted_run(
+                kind,
+                default,
+                MOST_CELLS * page,
+                MOST_CELLS,
+                shelf,
+                names,
+            )?;
             pages.add(Page::from_vec(cells))?;
         }
         Ok(pages)
@@ -318,6 +340,7 @@ impl Column {
     fn converted_run(
         &self,
         kind: Kind,
+        default: &Cell,
         start: u32,
         count: u32,
         shelf: &Shelf<'_>,
@@ -325,6 +348,7 @@ impl Column {
     ) -> Result<Vec<Cell>, AllocError>
         requires kept { IsKept shelf.now self.now }
         requires numbered { All (IsNumbered names.old) (column shelf.now self.now) }
+        requires default { IsDefault names.old kind default.now }
         requires within { start + count ≤ length (column shelf.now self.now) }
         requires fits { start + count < 2 ^ 32 }
         ensures stands { IfOk result (λ cells. StandsFor names.new cells.items (map (fitted_to kind) (take count (drop start (values shelf.now names.old self.now))))) }
@@ -334,7 +358,7 @@ impl Column {
         let mut cells = Vec::with_capacity(self.alloc, count as usize)?;
         for k in 0..count {
             let cell = self.cells.get(shelf, start + k);
-            cells.push(names.fitted(cell, kind)?)?;
+            cells.push(names.fitted_or(&cell, kind, default)?)?;
         }
         Ok(cells)
     }

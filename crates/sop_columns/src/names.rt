@@ -1,9 +1,9 @@
 //! The numbers of texts and lists.
-ghost use Rattle.std.specs.Prelude.{◌≡◌, [], ◌<◌, length, slice_index_or, IfOk};
-ghost use Rattle.sop_model.specs.Values.{value_seen, default_of};
+ghost use Rattle.std.specs.Prelude.{◌≡◌, [], ◌<◌, length, slice_index_or, IsTrue, IsOk, IfOk};
+ghost use Rattle.sop_model.specs.Values.{value_seen, kind_of, is_plain, default_of};
 ghost use Rattle.sop_model.specs.declared.value.Value.TheVariants as value;
 ghost use Rattle.sop_columns.specs.Names.{value_of, IsNumbered, IsThere, Grows};
-ghost use Rattle.sop_columns.specs.Fitted.{fitted_to};
+ghost use Rattle.sop_columns.specs.Fitted.{fitted_to, IsDefault};
 ghost use Rattle.sop_columns.specs.Lists.{value_listed};
 
 use indexmap::IndexSet;
@@ -76,6 +76,7 @@ impl Names {
         ensures numbered { IfOk result (λ cell. IsNumbered self.new cell) }
         ensures grows { Grows self.old self.new }
         ensures known { IsThere self.old value.now → self.new ≡ self.old }
+        ensures plain { IsTrue (is_plain (kind_of value.now)) → IsOk result }
     {
         match value {
             Value::Int(n) => Ok(Cell::Int(*n)),
@@ -102,15 +103,38 @@ impl Names {
 
     /// The cell that stands for the value of `cell` under a head of this kind: as the value is put there, else the kind's
     /// default. `Err` comes for want of memory alone; the table may have grown then too.
-    #[tactic(auto, using(crate::proofs::NameLemmas::grows_none))]
+    #[tactic(auto, using(crate::proofs::NameLemmas::grows_then))]
     pub fn fitted(&mut self, cell: Cell, kind: Kind) -> Result<Cell, AllocError>
         requires { IsNumbered self.old cell }
         ensures value { IfOk result (λ new. value_of self.new new ≡ fitted_to kind (value_of self.old cell)) }
         ensures numbered { IfOk result (λ new. IsNumbered self.new new) }
         ensures grows { Grows self.old self.new }
     {
-        let Some(value) = self.value(cell).put(kind) else {
-            return self.default_cell(kind);
+        let default = self.default_cell(kind)?;
+        let new = self.fitted_or(&cell, kind, &default)?;
+        Ok(new)
+    }
+
+    /// As `fitted`, where `default` stands for the kind's default. A cell of the kind stays, which takes no memory.
+    #[tactic(auto, using(crate::proofs::NameLemmas::grows_none))]
+    pub(crate) fn fitted_or(
+        &mut self,
+        cell: &Cell,
+        kind: Kind,
+        default: &Cell,
+    ) -> Result<Cell, AllocError>
+        requires cell { IsNumbered self.old cell.now }
+        requires default { IsDefault self.old kind default.now }
+        ensures value { IfOk result (λ new. value_of self.new new ≡ fitted_to kind (value_of self.old cell.now)) }
+        ensures numbered { IfOk result (λ new. IsNumbered self.new new) }
+        ensures grows { Grows self.old self.new }
+    {
+        let value = self.value(*cell);
+        if value.kind() == kind {
+            return Ok(*cell);
+        }
+        let Some(value) = value.put(kind) else {
+            return Ok(*default);
         };
         let value = value.to_value(self.alloc)?;
         self.cell(&value)

@@ -2,7 +2,7 @@ use Rattle.std.proofs.Common.{◌≡◌, ◌∙◌, ℕ, List, ap, arith, length
 use Rattle.std.specs.Prelude.{Option}
 use Rattle.sop_cells.specs.declared.place.Place.{Place}
 use Rattle.sop_columns.specs.Bits.{flag}
-use Rattle.sop_columns.proofs.BitLemmas.{flag_beside, joined_same}
+use Rattle.sop_columns.proofs.BitLemmas.{flag_beside, joined_same, joined_off, none_flag}
 use Rattle.sop_columns.proofs.bit_column.BitColumn.appended.Goals as goal
 use Rattle.sop_columns.proofs.bit_column.BitColumn.appended.Goals.{After-hold}
 
@@ -22,3 +22,6 @@ returns-clause-flags c = let p = (goal.at.returns-clause-flags c).After-hold in 
 
 pub returns-clause-few : goal.returns-clause-few
 returns-clause-few c = λ n a b. let e = ap (λ (cs : List (Option Place)). length cs) c.in_ok-made.ensures in c.join_into.ensures.few n (omega arith) b
+
+pub returns-then-has_no_blocks-clause-flags : goal.returns-then-has_no_blocks-clause-flags
+returns-then-has_no_blocks-clause-flags c = joined_off _ _ _ _ _ (held (goal.at.returns-then-has_no_blocks-clause-flags c).After-hold) c.requires.off (none_flag c.args.shelf.now c.args.more.now (c.has_no_blocks.ensures c.if-has_no_blocks.true))

@@ -4,7 +4,7 @@ use Rattle.std.specs.Prelude.{All}
 use Rattle.sop_pages.specs.declared.cell.Cell.{Cell}
 use Rattle.sop_cells.specs.Shelves.{column}
 use Rattle.sop_columns.proofs.NameLemmas.{grows_then}
-use Rattle.sop_columns.proofs.FittedLemmas.{stands_page}
+use Rattle.sop_columns.proofs.FittedLemmas.{stands_page, default_grows}
 use Rattle.sop_columns.proofs.column.Column.converted_full.Goals as goal
 use Rattle.sop_columns.proofs.column.Column.converted_full.Goals.{In_ok-add}
 
@@ -18,3 +18,6 @@ loop-page-preserved c = record {
   full = subst (All (λ page. length page ≡ 1024)) (sym (pushed c)) (All-push (λ page. length page ≡ 1024) c.loop-page.pages c.in_ok-cells.cells.items c.loop-page.invariant.full c.in_ok-cells.ensures.len);
   grows = grows_then _ _ _ c.loop-page.invariant.grows c.converted_run.ensures.grows;
 }
+
+pub converted_run-requires-clause-default : goal.converted_run-requires-clause-default
+converted_run-requires-clause-default c = default_grows c.args.names.now c.loop-page.names c.args.kind c.args.default.now c.loop-page.invariant.grows c.requires.default

@@ -1,7 +1,7 @@
 use Rattle.std.proofs.Common.{◌≡◌, ◌∙◌, ◌∷◌, [], ◌++◌, ◌*◌, ◌/◌, ◌-◌, List, ap, sym, subst, arith}
 use Rattle.sop_pages.specs.declared.cell.Cell.{Cell}
 use Rattle.sop_cells.specs.Shelves.{column, IsPaged}
-use Rattle.sop_columns.proofs.FittedLemmas.{stands_page, paged_full, paged_push}
+use Rattle.sop_columns.proofs.FittedLemmas.{default_grows, stands_page, paged_full, paged_push}
 use Rattle.sop_columns.proofs.column.Column.converted_pages.Goals as goal
 use Rattle.sop_columns.proofs.column.Column.converted_pages.Goals.{In_ok-add}
 
@@ -20,3 +20,6 @@ pub returns-clause-paged : goal.returns-clause-paged
 returns-clause-paged c =
     let l = c.in_ok-cells.ensures.len in let f = c.if-start-len.false in
     subst IsPaged (sym (pushed c)) (paged_push c.in_ok-pages.pages c.in_ok-cells.cells.items c.in_ok-pages.ensures.full (omega arith, omega arith))
+
+pub converted_run-requires-clause-default : goal.converted_run-requires-clause-default
+converted_run-requires-clause-default c = default_grows c.args.names.now c.converted_full.new.names c.args.kind c.args.default.now c.converted_full.ensures.grows c.requires.default
