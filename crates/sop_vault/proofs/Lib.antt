@@ -2,3 +2,4 @@ pub mod KeyedLemmas
 pub mod StepLemmas
 pub mod VaultLemmas
 pub mod HeadLemmas
+pub mod ShareLemmas

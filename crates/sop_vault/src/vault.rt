@@ -1,12 +1,13 @@
 //! The vault: keys, shares of geometries, and views.
-ghost use Rattle.std.specs.Prelude.{◌≡◌, ◌+◌, ◌≤◌, [], Some, None, IfOk, IfErr, OnOk, OnErr, IfSome, IsSomeAnd, IsTrue};
+ghost use Rattle.std.specs.Prelude.{◌≡◌, ℕ, ◌+◌, ◌≤◌, [], Some, None, IfOk, IfErr, OnOk, OnErr, IfSome, IsSomeAnd, IsTrue};
 ghost use Rattle.sop_model.specs.Geometry.{empty_geo};
 ghost use Rattle.sop_model.specs.Values.{is_value_within};
 ghost use Rattle.sop_columns.specs.Names.{value_of, IsNumbered, IsThere};
 ghost use Rattle.sop_model.specs.Rows.{value_set, member_set, HasHead, HasGroup, HasElement, IsOfHead};
 ghost use Rattle.sop_vault.specs.declared.vault_end.VaultEnd.TheVariants.{Memory};
 ghost use Rattle.sop_vault.specs.Keyed.{at, IsLive};
-ghost use Rattle.sop_vault.specs.Vaults.{Changed, Added, IsAsBefore};
+ghost use Rattle.sop_model.specs.declared.class.Class.{Class};
+ghost use Rattle.sop_vault.specs.Vaults.{share_at, Changed, Added, IsAsBefore};
 
 use crate::vault_end::VaultEnd;
 use slab::Slab;
@@ -156,7 +157,8 @@ impl<'b> Vault<'b> {
     }
 
     /// Makes `value` the value of an element under the attribute with the number `head`, both from 0. `Memory` leaves all as it was, but
-    /// that names may have come.
+    /// that names may have come. A page comes only where the column gives up one that others hold too, so that the pages and these
+    /// places of the column, added up, don't rise.
     pub fn set(
         &mut self,
         key: GeoKey,
@@ -169,6 +171,8 @@ impl<'b> Vault<'b> {
         requires within { IsTrue (is_value_within value.now) }
         ensures ok { OnOk result (IfSome (at self.old.geos key) (λ g. Changed self.old self.new key (Some (value_set g class head element value.now)))) }
         ensures pages { self.new.pages ≤ self.old.pages + 1 }
+        ensures spare { self.new.pages + share_at self.new.shares key class head ≤ self.old.pages + share_at self.old.shares key class head }
+        ensures falls { (c : Class) (h : ℕ) → share_at self.new.shares key c h ≤ share_at self.old.shares key c h }
         ensures memory { IfErr result (λ end. end ≡ Memory) }
         ensures err { OnErr result (IsAsBefore self.old self.new) }
     {

@@ -2,6 +2,7 @@ use Rattle.std.proofs.Common.{◌≡◌, ◌∙◌, ap, sym, subst, refl}
 use Rattle.sop_model.specs.declared.geo.Geo.{Geo}
 use Rattle.sop_model.specs.Rows.{value_set, HasHead, HasElement, IsOfHead}
 use Rattle.sop_vault.proofs.VaultLemmas.{here_held, known, call_counted, stays_counted, changed_clause, kept_clause, err_by}
+use Rattle.sop_vault.proofs.ShareLemmas.{spare_step, falls_step}
 use Rattle.sop_vault.proofs.vault.Vault.set.Goals as goal
 
 pub set_value-set-requires-clause-held : goal.set_value-set-requires-clause-held
@@ -32,3 +33,15 @@ returns-clause-ok c =
     changed_clause c.self.inside.shelf c.self.inside.names c.self.inside.sheets.slots c.self.invariant c.key.inside.key c.in-Some.sheet.now (sym c.in-Some.ensures.value)
     c.set_value-set.new.shelf c.set_value-set.new.names c.set_value-set.new.self c.each_is_counted.ensures
     (λ (g : Geo). value_set g c.args.class c.args.head c.args.element c.args.value.now) c.in_ok-set.ensures.ok c.args.self.now c.self.view_is c.args.key c.key.view_is
+
+pub returns-in_err-set-clause-spare : goal.returns-in_err-set-clause-spare
+returns-in_err-set-clause-spare c = spare_step c.self.inside.shelf c.set_value-set.new.shelf c.self.inside.names c.set_value-set.new.names c.self.inside.sheets.slots c.key.inside.key c.in-Some.sheet.now c.set_value-set.new.self c.self.invariant (sym c.in-Some.ensures.value) c.args.class c.args.head c.in_err-set.ensures.rest c.in_err-set.ensures.sparing c.args.self.now c.self.view_is c.args.key c.key.view_is
+
+pub returns-in_err-set-clause-falls : goal.returns-in_err-set-clause-falls
+returns-in_err-set-clause-falls c = falls_step c.self.inside.shelf c.set_value-set.new.shelf c.self.inside.names c.set_value-set.new.names c.self.inside.sheets.slots c.key.inside.key c.in-Some.sheet.now c.set_value-set.new.self c.self.invariant (sym c.in-Some.ensures.value) c.args.class c.args.head c.in_err-set.ensures.rest c.in_err-set.ensures.sparing c.args.self.now c.self.view_is c.args.key c.key.view_is
+
+pub returns-clause-spare : goal.returns-clause-spare
+returns-clause-spare c = spare_step c.self.inside.shelf c.set_value-set.new.shelf c.self.inside.names c.set_value-set.new.names c.self.inside.sheets.slots c.key.inside.key c.in-Some.sheet.now c.set_value-set.new.self c.self.invariant (sym c.in-Some.ensures.value) c.args.class c.args.head c.in_ok-set.ensures.rest c.in_ok-set.ensures.sparing c.args.self.now c.self.view_is c.args.key c.key.view_is
+
+pub returns-clause-falls : goal.returns-clause-falls
+returns-clause-falls c = falls_step c.self.inside.shelf c.set_value-set.new.shelf c.self.inside.names c.set_value-set.new.names c.self.inside.sheets.slots c.key.inside.key c.in-Some.sheet.now c.set_value-set.new.self c.self.invariant (sym c.in-Some.ensures.value) c.args.class c.args.head c.in_ok-set.ensures.rest c.in_ok-set.ensures.sparing c.args.self.now c.self.view_is c.args.key c.key.view_is
