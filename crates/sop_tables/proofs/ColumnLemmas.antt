@@ -1,32 +1,24 @@
 -- One column of a table, and columns where one is another, comes or goes.
-use Rattle.std.proofs.Common.{length-set, ◌≡◌, ℕ, zero, suc, ◌+◌, ◌*◌, ◌<◌, ◌≤◌, List, [], ◌∷◌, ◌++◌, length, map, take, drop, set, get_or, remove, replicate, refl, ap, sym, ◌∙◌, subst, arith}
+use Rattle.std.proofs.Common.{length-set, ◌≡◌, ℕ, zero, suc, ◌<◌, ◌≤◌, List, [], ◌∷◌, ◌++◌, length, map, take, drop, set, get_or, remove, replicate, refl, ap, sym, ◌∙◌, subst, arith}
 use Rattle.std.specs.Prelude.{All}
-use Rattle.std.proofs.lemmas.List.{length-replicate, length-map, length-append, length-take-le, drop_all, take_all, drop-set-lt}
+use Rattle.std.proofs.lemmas.List.{length-replicate, length-map, length-take-le, drop_all, take_all, drop-set-lt}
 use Rattle.std.proofs.lemmas.List.Elements.{All-nil}
 use Rattle.std.proofs.Math.Seq.{take-set-lt}
 use Rattle.sop_model.specs.declared.geo.Head.{Head}
 use Rattle.sop_model.specs.declared.value.Value.{Value}
 use Rattle.sop_model.specs.Values.{default_of}
-use Rattle.sop_pages.specs.declared.cell.Cell.{Cell}
-use Rattle.sop_pages.specs.declared.page.TheConstants.{MOST_CELLS}
 use Rattle.sop_pages.specs.Pages.{count}
 use Rattle.sop_pages.specs.Moves.{Covers}
 use Rattle.sop_cells.specs.declared.place.Place.{Place}
 use Rattle.sop_cells.specs.Places.{own, AreBased}
-use Rattle.sop_cells.specs.Shelves.{ShelfPages, cells_at, blocks, column, joined, IsPaged, Shifts}
+use Rattle.sop_cells.specs.Shelves.{ShelfPages, cells_at, blocks, column, Shifts}
+use Rattle.sop_cells.proofs.PageLists.{tight}
 use Rattle.sop_cells.proofs.PlaceLemmas.{held-append, based-append}
 use Rattle.sop_columns.specs.Names.{NameTable, value_of, Grows}
 use Rattle.sop_columns.specs.Values.{values, IsColumn}
 use Rattle.sop_tables.specs.Tables.{flat, held, default_at, IsColumnOf, AreColumns}
 use Rattle.sop_tables.proofs.FlatLemmas.{held_by, flat_at}
 use Rattle.sop_tables.proofs.KeptLemmas.{Beside, column_of_kept, columns_kept, held_kept, values_kept}
-
--- the places of a column of so many cells are no more than they need
-pub paged_tight : (pages : List (List Cell)) → IsPaged pages → MOST_CELLS * length pages < length (joined pages) + MOST_CELLS
-paged_tight [] p = omega arith
-paged_tight (page ∷ []) p = let a = p.0.0 in let e = length-append page (joined []) in omega arith
-paged_tight (page ∷ next ∷ pages) p =
-    let full = p.1 (omega arith) in let e = length-append page (joined (next ∷ pages)) in let r = paged_tight (next ∷ pages) p.2 in omega arith
 
 -- the default of a head among others
 abbrev pub default_in : List Head → ℕ → Value
@@ -54,7 +46,7 @@ module _ (s : ShelfPages) (n : NameTable) (size : ℕ) where
     paged = is.kept.paged;
     numbered = is.numbered;
     enough = omega arith;
-    tight = let a = paged_tight (blocks s places) is.kept.paged in let e = length-map places (cells_at s) in omega arith;
+    tight = let a = tight (blocks s places) is.kept.paged in let e = length-map places (cells_at s) in omega arith;
     spare = subst (All (λ v. v ≡ d)) (sym (drop_all size (values s n places) (let e = length-map (column s places) (value_of n) in omega arith))) (All-nil (λ v. v ≡ d));
   }
 

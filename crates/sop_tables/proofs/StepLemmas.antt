@@ -20,7 +20,7 @@ use Rattle.sop_columns.specs.Values.{IsColumn}
 use Rattle.sop_columns.specs.Bits.{flag, placed}
 use Rattle.sop_columns.proofs.BitLemmas.{none_on}
 use Rattle.sop_tables.specs.Transposed.{rows_from}
-use Rattle.sop_tables.specs.Tables.{TableLists, flat, places_in, held, rows, column_at, with_column, default_at, IsHeld, IsColumnOf, AreMembers, IsTable, IsTableStep}
+use Rattle.sop_tables.specs.Tables.{TableLists, flat, places_in, held, rows, column_at, with_column, default_at, IsHeld, IsColumnOf, AreMembers, IsTable, IsTableMade, IsTableStep}
 use Rattle.sop_tables.proofs.RowLemmas.{rows_set, rows_held_all, rows_add, rows_del}
 use Rattle.sop_tables.proofs.FlatLemmas.{held_by, flat_at, flat_set, flat_remove, flat_last}
 use Rattle.sop_tables.proofs.KeptLemmas.{Beside, columns_kept, held_kept, members_kept, all_flags_kept}
@@ -48,6 +48,13 @@ table_held s n tb is covered = record {
   covered = covered;
   based = based-append s.base (flat tb.columns) (flat (map placed tb.members)) (columns_based s n tb.count tb.set.heads tb.columns is.columns) (members_based s tb.count tb.members is.members);
 }
+
+-- what a step leaves is held, and so is what is made
+pub step_held : (s t : ShelfPages) (n m : NameTable) (old new : TableLists) → IsTableStep s t n m old new → IsHeld s (places_in old) → IsHeld t (places_in new)
+step_held s t n m old new step hd = table_held t m new step.table (record { each = λ x. let a = step.shifts.moves.counts x in let b = hd.covered.each x in omega arith })
+
+pub made_held : (s t : ShelfPages) (n m : NameTable) (new : TableLists) → IsTableMade s t n m new → IsHeld t (places_in new)
+made_held s t n m new made = table_held t m new made.table (record { each = λ x. let a = made.shifts.moves.counts x in omega arith })
 
 -- a table without one of its attributes, and with one more
 abbrev pub without_column : TableLists → ℕ → TableLists

@@ -101,6 +101,7 @@ default_at set head = unwrap_or (option_map default_of (option_map (λ h. h.kind
 abbrev pub column_at : TableLists → ℕ → List Place
 column_at t head = slice_index_or t.columns head []
 
+-- a table with other places for one column
 abbrev pub with_column : TableLists → ℕ → List Place → TableLists
 with_column t head places = record t { columns = slice_set t.columns head places }
 
@@ -108,6 +109,7 @@ with_column t head places = record t { columns = slice_set t.columns head places
 abbrev pub members_at : TableLists → ℕ → List (Option Place)
 members_at t group = slice_index_or t.members group []
 
+-- a table with other places for the members of one group
 abbrev pub with_members : TableLists → ℕ → List (Option Place) → TableLists
 with_members t group places = record t { members = slice_set t.members group places }
 

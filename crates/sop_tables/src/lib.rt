@@ -8,3 +8,6 @@ mod lots;
 mod table;
 
 pub use table::Table;
+
+#[cfg(test)]
+mod tests;
