@@ -9,3 +9,4 @@ pub mod CopyLemmas
 pub mod PartLemmas
 pub mod JoinLemmas
 pub mod FrameLemmas
+mod ReachLemmas

@@ -1,5 +1,5 @@
 //! Columns of cells on a shelf.
-ghost use Rattle.std.specs.Prelude.{◌≡◌, ◌∷◌, ℕ, ◌+◌, ◌-◌, ◌*◌, ◌^◌, ◌<◌, ◌≤◌, [], ◌++◌, All, length, map, take, drop, replicate, slice_index_or, slice_set, vec_len, vec_capacity, ◌/◌, ◌%◌, ◌==◌, if◌then◌else◌, None, IsOk, IfOk, IfErr, OnOk, OnErr};
+ghost use Rattle.std.specs.Prelude.{◌≡◌, ◌∷◌, ℕ, ◌+◌, ◌-◌, ◌*◌, ◌^◌, ◌<◌, ◌≤◌, [], ◌++◌, All, length, map, nat_le, take, drop, replicate, slice_index_or, slice_set, vec_len, vec_capacity, ◌/◌, ◌%◌, ◌==◌, if◌then◌else◌, None, IsOk, IfOk, IfErr, OnOk, OnErr};
 ghost use Rattle.sop_pages.specs.declared.cell.Cell.TheVariants.{Name};
 ghost use Rattle.sop_pages.specs.declared.page.TheConstants.{MOST_CELLS};
 ghost use Rattle.sop_pages.specs.Pages.{count, live_pages};
@@ -85,6 +85,17 @@ impl Cells {
     {
         let place = self.places[(i / MOST_CELLS) as usize];
         shelf.cell(place, i % MOST_CELLS)
+    }
+
+    /// Whether the column has `len` cells at least. It takes no memory.
+    pub fn reaches(&self, shelf: &Shelf<'_>, len: u32) -> bool
+        requires { IsKept shelf.now self.now }
+        ensures { result ≡ nat_le len (length (column shelf.now self.now)) }
+    {
+        match self.places.as_slice() {
+            [] => len == 0,
+            [full @ .., last] => u128::from(len) <= cells_of(full.len(), shelf.cells(*last).len()),
+        }
     }
 
     /// Makes `cell` the cell with the number `i`. A page that others hold too, or one of the base, is copied first, so
@@ -602,4 +613,11 @@ fn shorten_last(pages: &mut Vec<Page>, len: u32)
         return;
     }
     pages[count - 1].shorten((len - 1) % MOST_CELLS + 1);
+}
+
+// The number of cells of so many full pages and a last one.
+fn cells_of(full: usize, last: usize) -> u128
+    ensures { result ≡ MOST_CELLS * full + last }
+{
+    u128::from(MOST_CELLS) * full as u128 + last as u128
 }

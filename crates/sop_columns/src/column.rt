@@ -1,5 +1,5 @@
 //! Columns of values.
-ghost use Rattle.std.specs.Prelude.{◌≡◌, ℕ, ◌+◌, ◌*◌, ◌^◌, ◌<◌, ◌≤◌, ◌++◌, [], length, map, take, drop, replicate, ◌/◌, ◌%◌, ◌==◌, if◌then◌else◌, slice_get, slice_index_or, slice_set, Some, All, IsTrue, IsOk, IfOk, IfErr, OnOk, OnErr};
+ghost use Rattle.std.specs.Prelude.{◌≡◌, ℕ, ◌+◌, ◌*◌, ◌^◌, ◌<◌, ◌≤◌, ◌++◌, [], length, map, nat_le, take, drop, replicate, ◌/◌, ◌%◌, ◌==◌, if◌then◌else◌, slice_get, slice_index_or, slice_set, Some, All, IsTrue, IsOk, IfOk, IfErr, OnOk, OnErr};
 ghost use Rattle.sop_pages.specs.declared.page.TheConstants.{MOST_CELLS};
 ghost use Rattle.sop_columns.specs.Fitted.{fitted_to, IsDefault, StandsFor};
 ghost use Rattle.sop_pages.specs.Pages.{count, live_pages};
@@ -64,6 +64,14 @@ impl Column {
     {
         let cell = self.cells.get(shelf, i);
         names.value(cell)
+    }
+
+    /// Whether the column has `len` values at least. It takes no memory.
+    pub fn reaches(&self, shelf: &Shelf<'_>, len: u32) -> bool
+        requires { IsKept shelf.now self.now }
+        ensures { result ≡ nat_le len (length (column shelf.now self.now)) }
+    {
+        self.cells.reaches(shelf, len)
     }
 
     /// Makes `value` the value with the number `i`, from 0. Its page is changed in place where no other place holds it, and

@@ -10,3 +10,8 @@ pub mod ReadLemmas
 pub mod SetLemmas
 pub mod SwapLemmas
 pub mod FreshLemmas
+pub mod MadeLemmas
+pub mod SourceLemmas
+pub mod BesideLemmas
+pub mod ChangedRows
+pub mod SpareCells

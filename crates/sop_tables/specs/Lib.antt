@@ -1,3 +1,4 @@
 pub mod Transposed
 pub mod Tables
 pub mod Fresh
+pub mod Changes

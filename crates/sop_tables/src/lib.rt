@@ -1,10 +1,13 @@
 //! The attributes and groups of one class of elements, with a column of values for each attribute and the members of each group.
 #![tactic(auto)]
 
+mod beside;
 mod cells;
+mod changed;
 mod fresh;
 mod heads;
 mod lots;
+mod spare;
 mod table;
 
 pub use table::Table;

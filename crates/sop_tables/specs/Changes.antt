@@ -1,0 +1,137 @@
+-- New tables that are made beside others: what stands in their columns and which elements their groups have.
+use Rattle.std.specs.Prelude.{◌≡◌, ℕ, ◌+◌, ◌<◌, ◌≤◌, Bool, false, List, [], ◌++◌, length, map, replicate, All, Option, None, Some, slice_get, slice_index_or}
+use Rattle.sop_model.specs.declared.geo.Row.{Row}
+use Rattle.sop_model.specs.declared.geo.Head.{Head}
+use Rattle.sop_model.specs.declared.geo.HeadSet.{HeadSet}
+use Rattle.sop_model.specs.declared.value.Kind.TheVariants as kind
+use Rattle.sop_model.specs.declared.value.Value.{Value}
+use Rattle.sop_model.specs.Limits.{most_vertices}
+use Rattle.sop_model.specs.Values.{default_of}
+use Rattle.sop_cells.specs.declared.place.Place.{Place}
+use Rattle.sop_cells.specs.Shelves.{ShelfPages, column, Shifts}
+use Rattle.sop_columns.specs.Names.{NameTable, Grows}
+use Rattle.sop_columns.specs.Bits.{flag, placed}
+use Rattle.sop_tables.specs.Transposed.{tabulated, item, items_at}
+use Rattle.sop_tables.specs.Tables.{TableLists, flat, places_in, held, IsTable, IsHeld, IsColumnOf, AreColumns, AreMembers}
+use Rattle.sop_tables.specs.declared.changed.Change.{Change}
+use Rattle.sop_tables.specs.declared.changed.Change.TheVariants.{Longer, Picked}
+
+-- a head that no table has
+abbrev pub no_head : Head
+no_head = record { name = []; kind = kind.Int }
+
+abbrev pub head_at : List Head → ℕ → Head
+head_at heads k = slice_index_or heads k no_head
+
+abbrev pub group_at : List (List ℕ) → ℕ → List ℕ
+group_at groups k = slice_index_or groups k []
+
+-- WHAT STANDS IN THE NEW TABLE
+
+-- its heads and groups
+abbrev pub set_after : HeadSet → Change → HeadSet
+set_after set (Longer more) = set
+set_after set (Picked numbers) = set
+
+-- how many elements it has
+abbrev pub count_after : ℕ → Change → ℕ
+count_after count (Longer more) = count + more
+count_after count (Picked numbers) = length numbers.now
+
+-- the values of a column of a table, or others where it has no such column
+abbrev pub values_or : ShelfPages → NameTable → ℕ → List Value → Option (List Place) → List Value
+values_or s n count others None = others
+values_or s n count others (Some places) = held s n count places
+
+-- the values of a column of a table, or so many defaults
+abbrev pub first_values : ShelfPages → NameTable → TableLists → ℕ → Head → List Value
+first_values s n t k h = values_or s n t.count (replicate t.count (default_of h.kind)) (slice_get t.columns k)
+
+-- the values of the column with this number, which stands under this head
+abbrev pub values_after : ShelfPages → NameTable → TableLists → Change → ℕ → Head → List Value
+values_after s n t (Longer more) k h = first_values s n t k h ++ replicate more (default_of h.kind)
+values_after s n t (Picked numbers) k h = items_at numbers.now (first_values s n t k h)
+
+-- the values of all columns under these heads
+abbrev pub all_values_after : ShelfPages → NameTable → TableLists → Change → List Head → ℕ → List (List Value)
+all_values_after s n t change heads many = tabulated many (λ k. values_after s n t change k (head_at heads k))
+
+-- whether an element is among these members, if there are any
+abbrev pub has_or : ShelfPages → Option (List (Option Place)) → ℕ → Bool
+has_or s None i = false
+has_or s (Some places) i = flag s places i
+
+-- whether an element is in a group of a table
+abbrev pub first_flag : ShelfPages → TableLists → ℕ → ℕ → Bool
+first_flag s t k i = has_or s (slice_get t.members k) i
+
+-- whether an element is in the group with this number and name
+abbrev pub flag_after : ShelfPages → TableLists → Change → ℕ → List ℕ → ℕ → Bool
+flag_after s t (Longer more) k name i = first_flag s t k i
+flag_after s t (Picked numbers) k name i = first_flag s t k (slice_index_or numbers.now i 0)
+
+-- the flags of an element in all groups of these names
+abbrev pub all_flags_after : ShelfPages → TableLists → Change → List (List ℕ) → ℕ → ℕ → List Bool
+all_flags_after s t change groups many i = tabulated many (λ k. flag_after s t change k (group_at groups k) i)
+
+-- rows of these columns and flags
+abbrev pub rows_wanted : ℕ → List (List Value) → (ℕ → List Bool) → List Row
+rows_wanted count columns flags = tabulated count (λ i. record { values = map (item i) columns; flags = flags i })
+
+-- the rows of the new table
+abbrev pub rows_after : ShelfPages → NameTable → TableLists → Change → List Row
+rows_after s n t change =
+    let set = set_after t.set change in
+    rows_wanted (count_after t.count change) (all_values_after s n t change set.heads (length set.heads)) (all_flags_after s t change set.groups (length set.groups))
+
+-- WHERE A NEW TABLE CAN BE MADE
+
+-- the elements with these numbers are there
+pub record ArePicks (count : ℕ) (numbers : List ℕ) : Type 0 where
+  pub within : All (λ i. i < count) numbers
+  pub few : length numbers ≤ most_vertices
+
+abbrev pub Fits : ShelfPages → NameTable → TableLists → Change → Type 0
+Fits s n t (Longer more) = t.count + more ≤ most_vertices
+Fits s n t (Picked numbers) = ArePicks t.count numbers.now
+
+-- a table of which a new one can be made
+pub record IsSource (s : ShelfPages) (n : NameTable) (t : TableLists) (change : Change) : Type 0 where
+  pub table : IsTable s n t
+  pub held : IsHeld s (places_in t)
+  pub fits : Fits s n t change
+
+-- WHAT WAS MADE
+
+-- a new column of a table that is made
+pub record IsNewColumn (s t : ShelfPages) (n m : NameTable) (size : ℕ) (h : Head) (wanted : List Value) (places : List Place) : Type 0 where
+  pub shifts : Shifts s t [] places
+  pub grows : Grows n m
+  pub column : IsColumnOf t m size (default_of h.kind) places
+  pub values : held t m size places ≡ wanted
+
+-- new columns under these heads
+pub record AreNewColumns (s t : ShelfPages) (n m : NameTable) (size : ℕ) (heads : List Head) (wanted : List (List Value)) (made : List (List Place)) : Type 0 where
+  pub shifts : Shifts s t [] (flat made)
+  pub grows : Grows n m
+  pub columns : AreColumns t m size heads made
+  pub values : map (held t m size) made ≡ wanted
+
+-- new members of a group
+pub record IsNewMembers (s t : ShelfPages) (size : ℕ) (wanted : ℕ → Bool) (places : List (Option Place)) : Type 0 where
+  pub shifts : Shifts s t [] (placed places)
+  pub members : AreMembers t size places
+  pub flags : (i : ℕ) → i < size → flag t places i ≡ wanted i
+
+-- new members of so many groups
+pub record AreNewMembers (s t : ShelfPages) (size groups : ℕ) (wanted : ℕ → List Bool) (made : List (List (Option Place))) : Type 0 where
+  pub shifts : Shifts s t [] (flat (map placed made))
+  pub many : length made ≡ groups
+  pub members : All (AreMembers t size) made
+  pub flags : (i : ℕ) → i < size → map (λ has. has i) (map (flag t) made) ≡ wanted i
+
+-- SPARE CELLS
+
+-- each column has cells for so many elements
+pub record HasCells (s : ShelfPages) (t : TableLists) (count : ℕ) : Type 0 where
+  pub each : All (λ places. count ≤ length (column s places)) t.columns
