@@ -69,7 +69,7 @@ module _ (s t : ShelfPages) (n m : NameTable) (sheet new : SheetLists) (class : 
   now = table_of new class
 
   -- the geometry is another one, whose class has these heads, groups and rows
-  becomes : (g : Geo) → now.set ≡ heads_of g class → rows t m now ≡ rows_of g class
+  pub becomes : (g : Geo) → now.set ≡ heads_of g class → rows t m now ≡ rows_of g class
       → ((other : Class) → other ≢ class → heads_of g other ≡ heads_of is.geo other) → ((other : Class) → other ≢ class → rows_of g other ≡ rows_of is.geo other)
       → shape_of g ≡ shape_of is.geo → IsSound g → IsWithin g → AreValuesWithin g → (h : Geo) → g ≡ h → Becomes s t n m sheet new h
   becomes g set row sets others shape sound within values h e = record {

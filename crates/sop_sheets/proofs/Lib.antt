@@ -4,3 +4,4 @@ pub mod SheetLemmas
 pub mod ViewLemmas
 pub mod CallLemmas
 pub mod MadeLemmas
+pub mod GrowLemmas

@@ -3,6 +3,7 @@
 
 mod cells;
 mod columns;
+mod growing;
 mod heads;
 mod made;
 mod sheet;
