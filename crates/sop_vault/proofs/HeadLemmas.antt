@@ -9,9 +9,9 @@ use Rattle.sop_model.specs.declared.class.Class.TheVariants.{Detail, Prim, Point
 use Rattle.sop_model.specs.declared.geo.Geo.{Geo}
 use Rattle.sop_model.specs.declared.geo.Head.{Head}
 use Rattle.sop_model.specs.declared.geo.HeadSet.{HeadSet}
-use Rattle.sop_model.specs.Limits.{most_heads, most_groups}
-use Rattle.sop_model.specs.Geometry.{position_head, heads_of, BeginsWithPosition, IsSound, IsWithin}
-use Rattle.sop_model.specs.Rows.{head_named, group_named, attr_added, attr_deleted, group_added, IsNotPosition}
+use Rattle.sop_model.specs.Limits.{most_points, most_heads, most_groups}
+use Rattle.sop_model.specs.Geometry.{position_head, heads_of, count_of, BeginsWithPosition, IsSound, IsWithin}
+use Rattle.sop_model.specs.Rows.{head_named, group_named, attr_added, attr_deleted, group_added, points_added, IsNotPosition}
 use Rattle.sop_rows.proofs.LawLemmas.{leave_within}
 use Rattle.sop_cells.specs.Shelves.{ShelfPages}
 use Rattle.sop_columns.specs.Names.{NameTable}
@@ -65,6 +65,9 @@ module _ (s : ShelfPages) (n : NameTable) (slots : Keyed SheetLists) (c : Counte
       let w = subst (λ (g : Geo). IsWithin g) (sym own) (sheet_here s n slots c key sheet is).within in
       let few = (leave_within.add_group here class name w).0 within in
       absurd (omega arith)
+
+  pub points_full : (more : ℕ) → (count_of here Point + more ≤ most_points → ⊥) → PassesLimit (points_added here more)
+  points_full more full within = full ((leave_within.add_points here more (subst (λ (g : Geo). IsWithin g) (sym own) (sheet_here s n slots c key sheet is).within)).0 within)
 
   -- a name other than `P` isn't that of the points' first head
   pub apart_here : (class : Class) (name : List ℕ) → IsNoPosition class name → (head : ℕ) → head_named here class name ≡ Some head → IsNotPosition class head

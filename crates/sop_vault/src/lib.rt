@@ -5,6 +5,7 @@
 #![tactic(auto)]
 
 mod columns;
+mod elements;
 mod heads;
 mod vault;
 mod vault_end;
