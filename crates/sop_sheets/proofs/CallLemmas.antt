@@ -1,5 +1,5 @@
 -- What a step of one table makes of a geometry: one value or flag set, a column held, heads and groups added and taken away.
-use Rattle.std.proofs.Common.{◌≡◌, ◌≢◌, ℕ, ◌<◌, ◌≤◌, Bool, false, List, [], length, map, refl, ap, sym, ◌∙◌, subst, arith}
+use Rattle.std.proofs.Common.{◌≡◌, ◌≢◌, ℕ, ◌<◌, Bool, false, List, [], length, map, ap, sym, ◌∙◌, subst}
 use Rattle.std.specs.Prelude.{All, IsTrue, Result, Ok, Err, OnOk, OnErr, IfOk, IfErr, replicate}
 use Rattle.sop_model.specs.declared.class.Class.{Class}
 use Rattle.sop_model.specs.declared.geo.Geo.{Geo}
@@ -11,17 +11,15 @@ use Rattle.sop_model.specs.Limits.{most_heads, most_groups}
 use Rattle.sop_model.specs.Values.{default_of, is_value_within}
 use Rattle.sop_model.specs.Geometry.{heads_of, rows_of, count_of, IsSound, IsWithin, AreValuesWithin}
 use Rattle.sop_model.specs.Rows.{changed_at, with_value, with_flag, with_last_value, with_last_flag, without_value, rows_held, with_last_head, with_last_group, without_head, value_set, member_set, column_held, column_cleared, default_at, attr_added, attr_deleted, group_added, HasHead, IsOfHead, IsNewHead, IsNewGroup, HasGroups, IsNotPosition}
-use Rattle.sop_model.proofs.RowLists.{length-changed_at}
-use Rattle.sop_rows.proofs.RowSound.{length-rows_held}
-use Rattle.sop_rows.proofs.ClassRows.{HasShapeOf, heads_of-with_rows, rows_of-with_rows_other, heads_of-with_class_other, rows_of-with_class_other}
+use Rattle.sop_rows.proofs.ClassRows.{heads_of-with_rows, rows_of-with_rows_other, heads_of-with_class_other, rows_of-with_class_other}
 use Rattle.sop_rows.proofs.RowOps.{HasShapeOf-value_set, rows_of-value_set, HasShapeOf-member_set, rows_of-member_set, HasShapeOf-column_held, rows_of-column_held, HasShapeOf-attr_added, heads_of-attr_added, rows_of-attr_added, HasShapeOf-attr_deleted, heads_of-attr_deleted, rows_of-attr_deleted, HasShapeOf-group_added, heads_of-group_added, rows_of-group_added}
 use Rattle.sop_rows.proofs.LawLemmas.{leave_sound, leave_within, leave_values_within}
 use Rattle.sop_pages.specs.Moves.{Covers}
 use Rattle.sop_cells.specs.Places.{own}
-use Rattle.sop_cells.specs.Shelves.{ShelfPages, Shifts}
+use Rattle.sop_cells.specs.Shelves.{ShelfPages}
 use Rattle.sop_cells.proofs.PlaceLemmas.{stays}
 use Rattle.sop_columns.specs.Names.{NameTable, Grows}
-use Rattle.sop_tables.specs.Tables.{TableLists, places_in, rows, IsTable, IsHeld, IsTableStep, IsNoStep}
+use Rattle.sop_tables.specs.Tables.{TableLists, rows, IsTableStep}
 use Rattle.sop_sheets.specs.Sheets.{SheetLists, table_of, with_table, places_of, geo_of, IsSheet, IsSheetStep, Becomes, Stays}
 use Rattle.sop_shape.specs.Shapes.{shape_of}
 use Rattle.sop_sheets.proofs.SheetLemmas.{sheet_stands, same_shape, class_step, class_geo}

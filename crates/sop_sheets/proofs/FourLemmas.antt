@@ -1,5 +1,5 @@
 -- Four lots of places, held one after the other, or let go.
-use Rattle.std.proofs.Common.{◌≡◌, List, [], ◌++◌}
+use Rattle.std.proofs.Common.{List, [], ◌++◌}
 use Rattle.sop_cells.specs.declared.place.Place.{Place}
 use Rattle.sop_cells.specs.Shelves.{ShelfPages, Shifts}
 use Rattle.sop_cells.proofs.PlaceLemmas.{shifts_then}

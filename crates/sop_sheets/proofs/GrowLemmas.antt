@@ -8,8 +8,7 @@ use Rattle.sop_model.specs.Geometry.{rows_of, count_of}
 use Rattle.sop_model.specs.Rows.{default_row, points_added}
 use Rattle.sop_rows.proofs.ElementOps.{heads_of-points_added}
 use Rattle.sop_rows.proofs.LawLemmas.{leave_sound, leave_within, leave_values_within}
-use Rattle.sop_pages.specs.Pages.{count}
-use Rattle.sop_pages.specs.Moves.{Covers, times}
+use Rattle.sop_pages.specs.Moves.{Covers}
 use Rattle.sop_cells.specs.Places.{own}
 use Rattle.sop_cells.specs.Shelves.{ShelfPages, Shifts}
 use Rattle.sop_columns.specs.Names.{NameTable}
@@ -17,7 +16,7 @@ use Rattle.sop_columns.proofs.NameLemmas.{grows_none}
 use Rattle.sop_tables.specs.Tables.{TableLists, places_in, rows, IsHeld, IsTableStep, IsTableMade}
 use Rattle.sop_tables.proofs.KeptLemmas.{frame}
 use Rattle.sop_tables.proofs.SwapLemmas.{swap_shifts}
-use Rattle.sop_sheets.specs.Sheets.{SheetLists, table_of, with_table, places_of, geo_of, IsSheet, Becomes}
+use Rattle.sop_sheets.specs.Sheets.{SheetLists, with_table, places_of, geo_of, IsSheet, Becomes}
 use Rattle.sop_sheets.proofs.SheetLemmas.{sheet_stands}
 use Rattle.sop_sheets.proofs.CallLemmas.{becomes}
 

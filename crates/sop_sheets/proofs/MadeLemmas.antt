@@ -1,18 +1,15 @@
 -- A geometry made anew: tables without columns hold no page, and four tables and a shape stand for their geometry.
-use Rattle.std.proofs.Common.{◌≡◌, ℕ, ◌<◌, ◌≤◌, List, [], ◌∷◌, ◌++◌, length, map, replicate, refl, ap, sym, ◌∙◌, subst, arith}
-use Rattle.std.specs.Prelude.{⊤}
+use Rattle.std.proofs.Common.{◌≡◌, ℕ, List, [], ◌∷◌, ◌++◌, length, map, replicate, refl, ap, sym, ◌∙◌, subst, arith}
 use Rattle.sop_model.specs.declared.class.Class.{Class}
 use Rattle.sop_model.specs.declared.class.Class.TheVariants.{Detail, Prim, Point, Vertex}
 use Rattle.sop_model.specs.declared.geo.Geo.{Geo}
-use Rattle.sop_model.specs.declared.geo.Row.{Row}
 use Rattle.sop_model.specs.declared.geo.HeadSet.{HeadSet}
-use Rattle.sop_model.specs.Geometry.{empty_row, no_heads, only_position, empty_geo, heads_of, rows_of, IsSound, IsWithin, AreValuesWithin}
+use Rattle.sop_model.specs.Geometry.{no_heads, only_position, empty_geo, heads_of, rows_of, IsSound, IsWithin, AreValuesWithin}
 use Rattle.std.proofs.lemmas.List.{append-nil}
 use Rattle.sop_model.specs.Rows.{default_row}
 use Rattle.sop_model.proofs.PlainLimits.{IsGood-empty_geo, Fits-empty_geo}
 use Rattle.sop_model.proofs.LimitsLemmas.{fits_within}
-use Rattle.sop_shape.specs.Shapes.{ShapeLists, shape_of, HasShape}
-use Rattle.sop_pages.specs.Pages.{count}
+use Rattle.sop_shape.specs.Shapes.{ShapeLists, HasShape}
 use Rattle.sop_pages.specs.Moves.{times}
 use Rattle.sop_cells.specs.declared.place.Place.{Place}
 use Rattle.sop_cells.specs.Places.{own}

@@ -1,19 +1,17 @@
 -- Sheets: the geometry that one stands for, and what a step of one table is for it.
-use Rattle.std.proofs.Common.{◌≡◌, ◌≢◌, ℕ, ◌+◌, ◌-◌, ◌<◌, ◌≤◌, List, [], ◌∷◌, ◌++◌, length, map, refl, ap, sym, ◌∙◌, subst, arith}
-use Rattle.std.proofs.lemmas.List.{length-map}
+use Rattle.std.proofs.Common.{◌≡◌, ◌≢◌, ℕ, ◌+◌, ◌<◌, ◌≤◌, List, [], ◌∷◌, ◌++◌, map, refl, ap, sym, ◌∙◌, subst, arith}
 use Rattle.sop_model.specs.declared.class.Class.{Class}
 use Rattle.sop_model.specs.declared.class.Class.TheVariants.{Detail, Prim, Point, Vertex}
 use Rattle.sop_model.specs.declared.geo.Geo.{Geo}
 use Rattle.sop_model.specs.declared.geo.Primitive.{Primitive}
-use Rattle.sop_model.specs.Vertices.{size_of, corners_of, ends_of}
+use Rattle.sop_model.specs.Vertices.{size_of, ends_of}
 use Rattle.sop_model.specs.Geometry.{empty_row, heads_of, rows_of, IsSound, IsWithin, AreValuesWithin}
 use Rattle.sop_model.specs.Rows.{first_row}
 use Rattle.sop_rows.proofs.ClassRows.{HasShapeOf, each_class}
-use Rattle.sop_shape.specs.Shapes.{ShapeLists, shape_of}
+use Rattle.sop_shape.specs.Shapes.{shape_of}
 use Rattle.sop_pages.specs.Pages.{count}
-use Rattle.sop_pages.specs.Moves.{times, Covers, Moves}
+use Rattle.sop_pages.specs.Moves.{times, Covers}
 use Rattle.sop_cells.specs.declared.place.Place.{Place}
-use Rattle.sop_cells.specs.declared.place.Place.TheVariants.{Own, Base}
 use Rattle.sop_cells.specs.Places.{own}
 use Rattle.sop_cells.specs.Shelves.{ShelfPages, Shifts}
 use Rattle.sop_cells.proofs.PlaceLemmas.{held-append}

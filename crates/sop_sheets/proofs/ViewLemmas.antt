@@ -1,11 +1,9 @@
 -- What a geometry that is kept as columns has, told by its sheet.
-use Rattle.std.proofs.Common.{◌≡◌, ℕ, ◌<◌, List, ◌++◌, length, map, refl, ap, sym, ◌∙◌, subst, arith}
+use Rattle.std.proofs.Common.{◌≡◌, ◌++◌, length, map, ap, sym, ◌∙◌, arith}
 use Rattle.std.proofs.lemmas.List.{length-map}
 use Rattle.sop_model.specs.declared.class.Class.{Class}
 use Rattle.sop_model.specs.declared.class.Class.TheVariants.{Detail, Prim, Point, Vertex}
 use Rattle.sop_model.specs.declared.geo.Geo.{Geo}
-use Rattle.sop_model.specs.declared.geo.HeadSet.{HeadSet}
-use Rattle.sop_model.specs.declared.geo.Row.{Row}
 use Rattle.sop_model.specs.Vertices.{corners_of}
 use Rattle.sop_model.specs.Geometry.{heads_of, rows_of, count_of}
 use Rattle.sop_shape.specs.Shapes.{shape_of, HasShape}
@@ -15,7 +13,7 @@ use Rattle.sop_cells.specs.Shelves.{ShelfPages}
 use Rattle.sop_cells.proofs.PlaceLemmas.{based-append}
 use Rattle.sop_columns.specs.Names.{NameTable}
 use Rattle.sop_tables.specs.Transposed.{row_of}
-use Rattle.sop_tables.specs.Tables.{TableLists, places_in, rows, held, IsTable, IsHeld}
+use Rattle.sop_tables.specs.Tables.{TableLists, places_in, rows, held, IsHeld}
 use Rattle.sop_columns.specs.Bits.{flag}
 use Rattle.sop_tables.proofs.TabulatedLemmas.{length-tabulated}
 use Rattle.sop_tables.proofs.StepLemmas.{table_held}

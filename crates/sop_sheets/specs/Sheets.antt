@@ -1,11 +1,8 @@
 -- A geometry as columns, and the geometry that they stand for.
-use Rattle.std.specs.Prelude.{◌≡◌, ℕ, ◌-◌, ◌^◌, Bool, List, [], ◌∷◌, ◌++◌, take, drop}
+use Rattle.std.specs.Prelude.{◌≡◌, ℕ, ◌^◌, List, [], ◌++◌}
 use Rattle.sop_model.specs.declared.class.Class.{Class}
 use Rattle.sop_model.specs.declared.class.Class.TheVariants.{Detail, Prim, Point, Vertex}
 use Rattle.sop_model.specs.declared.geo.Geo.{Geo}
-use Rattle.sop_model.specs.declared.geo.Row.{Row}
-use Rattle.sop_model.specs.declared.geo.Corner.{Corner}
-use Rattle.sop_model.specs.declared.geo.Primitive.{Primitive}
 use Rattle.sop_model.specs.Geometry.{empty_row, heads_of, rows_of, IsSound, IsWithin, AreValuesWithin}
 use Rattle.sop_model.specs.Rows.{first_row}
 use Rattle.sop_shape.specs.Shapes.{ShapeLists, shape_of}

@@ -1,6 +1,6 @@
 -- Attributes and groups of the geometry at a key, told by its sheet: which there are, and whether there is room for another.
-use Rattle.std.proofs.Common.{◌≡◌, ◌≢◌, ℕ, zero, suc, ◌+◌, ◌<◌, ◌≤◌, Bool, true, false, List, [], ◌∷◌, length, map, refl, ap, sym, ◌∙◌, subst, arith}
-use Rattle.std.specs.Prelude.{Option, Some, None, is_some, IfSome, position, codes, slice_get, slice_set}
+use Rattle.std.proofs.Common.{◌≡◌, ◌≢◌, ℕ, zero, suc, ◌+◌, ◌<◌, ◌≤◌, true, false, List, [], ◌∷◌, length, refl, ap, sym, ◌∙◌, subst, arith}
+use Rattle.std.specs.Prelude.{Option, Some, None, is_some, IfSome, position, slice_set}
 use Rattle.std.specs.Str.{bytes_eq}
 use Rattle.std.proofs.lemmas.Bool.{false≢true}
 use Rattle.std.proofs.lemmas.List.Quantifiers.{position-Some}
@@ -10,13 +10,13 @@ use Rattle.sop_model.specs.declared.geo.Geo.{Geo}
 use Rattle.sop_model.specs.declared.geo.Head.{Head}
 use Rattle.sop_model.specs.declared.geo.HeadSet.{HeadSet}
 use Rattle.sop_model.specs.Limits.{most_points, most_heads, most_groups}
-use Rattle.sop_model.specs.Geometry.{position_head, heads_of, count_of, BeginsWithPosition, IsSound, IsWithin}
+use Rattle.sop_model.specs.Geometry.{heads_of, count_of, BeginsWithPosition, IsSound, IsWithin}
 use Rattle.sop_model.specs.Rows.{head_named, group_named, attr_added, attr_deleted, group_added, points_added, IsNotPosition}
 use Rattle.sop_rows.proofs.LawLemmas.{leave_within}
 use Rattle.sop_cells.specs.Shelves.{ShelfPages}
 use Rattle.sop_columns.specs.Names.{NameTable}
 use Rattle.sop_pages.specs.Pages.{AreCounted}
-use Rattle.sop_sheets.specs.Sheets.{SheetLists, table_of, geo_of, IsSheet, Becomes}
+use Rattle.sop_sheets.specs.Sheets.{SheetLists, table_of, geo_of, Becomes}
 use Rattle.sop_sheets.proofs.ViewLemmas.{set_in}
 use Rattle.sop_sheets.proofs.SheetLemmas.{sheet_stands}
 use Rattle.sop_vault.specs.Keyed.{Keyed, at}

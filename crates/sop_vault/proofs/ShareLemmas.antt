@@ -1,26 +1,19 @@
 -- How many pages of each column others hold too, where one value of one column is set.
-use Rattle.std.proofs.Common.{◌≡◌, ◌≢◌, ℕ, zero, suc, ◌+◌, ◌<◌, ◌≤◌, List, [], ◌∷◌, ◌++◌, length, map, refl, ap, sym, ◌∙◌, subst, arith}
-use Rattle.std.specs.Prelude.{Option, Some, None, option_map, slice_set, slice_index_or, nat_lt, if◌then◌else◌}
-use Rattle.std.proofs.lemmas.Bool.Decides.{nat_tests}
+use Rattle.std.proofs.Common.{◌≡◌, ℕ, zero, suc, ◌+◌, ◌≤◌, List, [], ◌∷◌, map, refl, ap, ◌∙◌, subst, arith}
+use Rattle.std.specs.Prelude.{Option, Some, None, option_map, slice_set, slice_index_or}
 use Rattle.std.proofs.Math.ListN.{get_or-map}
-use Rattle.std.proofs.lemmas.List.{get_or-set_same}
 use Rattle.sop_model.specs.declared.class.Class.{Class}
 use Rattle.sop_model.specs.declared.class.Class.TheVariants.{Detail, Prim, Point, Vertex}
-use Rattle.sop_pages.specs.Pages.{count, live_pages}
-use Rattle.sop_pages.specs.Moves.{times}
-use Rattle.sop_pages.proofs.MoveLemmas.{times-append, times_here}
 use Rattle.sop_cells.specs.declared.place.Place.{Place}
-use Rattle.sop_cells.specs.declared.place.Place.TheVariants.{Own, Base}
-use Rattle.sop_cells.specs.Places.{own}
 use Rattle.sop_cells.specs.Shelves.{ShelfPages, shared}
 use Rattle.sop_cells.proofs.PlaceLemmas.{held-append}
 use Rattle.sop_cells.proofs.SpareLemmas.{shared_falls}
 use Rattle.sop_columns.specs.Bits.{placed}
 use Rattle.sop_columns.specs.Names.{NameTable}
-use Rattle.sop_tables.specs.Tables.{TableLists, flat, column_at, with_column, IsSparing}
+use Rattle.sop_tables.specs.Tables.{flat, column_at, with_column, IsSparing}
 use Rattle.sop_tables.proofs.FlatLemmas.{flat_at}
-use Rattle.sop_sheets.specs.Sheets.{SheetLists, table_of, with_table, geo_of}
-use Rattle.sop_sheets.proofs.SheetLemmas.{in_sheet, table_of-with_table}
+use Rattle.sop_sheets.specs.Sheets.{SheetLists, table_of, with_table}
+use Rattle.sop_sheets.proofs.SheetLemmas.{in_sheet}
 use Rattle.sop_vault.specs.Keyed.{Keyed, at}
 use Rattle.sop_vault.specs.Vaults.{VaultMap, Shares, shares_in, share_in, share_at, shares_of, shares_of_class, vault_of, Counted}
 use Rattle.sop_vault.proofs.KeyedLemmas.{set_here}

@@ -1,19 +1,19 @@
 -- The step of a vault, whatever it keeps at its keys: one key has another thing, and the shelf moved by that key's places. So the counts of
 -- the pages stay true, and all other keys keep what they stand for.
-use Rattle.std.proofs.Common.{◌≡◌, ◌≢◌, ℕ, zero, suc, ◌+◌, ◌*◌, ◌^◌, ◌<◌, ◌≤◌, List, [], ◌∷◌, ◌++◌, length, map, refl, ap, sym, ◌∙◌, subst, arith, inl, inr}
-use Rattle.std.specs.Prelude.{⊤, Option, Some, None, option_map, slice_set}
+use Rattle.std.proofs.Common.{◌≡◌, ◌≢◌, ℕ, ◌*◌, ◌<◌, ◌≤◌, List, [], ◌∷◌, length, refl, ap, sym, ◌∙◌, subst, arith, inl, inr}
+use Rattle.std.specs.Prelude.{Option, Some, None, option_map}
 use Rattle.std.proofs.Math.ListN.{get_or-map}
 use Rattle.std.proofs.lemmas.Bool.Decides.{nat_tests}
-use Rattle.sop_pages.specs.Pages.{Store, count}
-use Rattle.sop_pages.specs.Moves.{times, Covers, Moves}
+use Rattle.sop_pages.specs.Pages.{count}
+use Rattle.sop_pages.specs.Moves.{times, Covers}
 use Rattle.sop_pages.proofs.MoveLemmas.{same_or}
 use Rattle.sop_cells.specs.declared.place.Place.{Place}
 use Rattle.sop_cells.specs.Places.{own}
 use Rattle.sop_cells.specs.Shelves.{ShelfPages, Shifts}
 use Rattle.sop_columns.specs.Names.{NameTable, Grows}
-use Rattle.sop_vault.specs.Keyed.{Keyed, at, total, Changes, Adds, AreSame}
+use Rattle.sop_vault.specs.Keyed.{Keyed, at, Changes}
 use Rattle.sop_vault.specs.Counted.{slot_places, holds, CountsPlaces, IsSlot, AreSlots, all_seen}
-use Rattle.sop_vault.proofs.KeyedLemmas.{total_at, total_two, total_same, total_changes, total_bound}
+use Rattle.sop_vault.proofs.KeyedLemmas.{total_at, total_two, total_changes, total_bound}
 
 pub times_length : (x : ℕ) (xs : List ℕ) → times x xs ≤ length xs
 times_length x [] = omega arith

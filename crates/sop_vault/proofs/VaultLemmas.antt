@@ -1,12 +1,11 @@
 -- The calls of a vault, by what they make of the sheet at one key.
-use Rattle.std.proofs.Common.{◌≡◌, ◌≢◌, ℕ, ◌+◌, ◌*◌, ◌^◌, ◌<◌, ◌≤◌, List, [], ◌∷◌, ◌++◌, length, map, length-append, refl, ap, sym, ◌∙◌, subst, arith, inl, inr}
+use Rattle.std.proofs.Common.{◌≡◌, ◌≢◌, ℕ, ◌+◌, ◌^◌, ◌<◌, ◌≤◌, [], ◌∷◌, ◌++◌, length, map, length-append, refl, ap, sym, ◌∙◌, subst, arith, inl, inr}
 use Rattle.std.specs.Prelude.{◌⊎◌, Option, Some, None, option_map, slice_set, IfSome, IsSomeAnd, Result, Ok, Err, OnErr}
 use Rattle.std.proofs.Math.ListN.{get_or-map}
 use Rattle.sop_model.specs.declared.geo.Geo.{Geo}
-use Rattle.sop_pages.specs.Pages.{AreCounted, count, live_pages}
-use Rattle.sop_pages.specs.Moves.{times, Covers, Moves}
+use Rattle.sop_pages.specs.Pages.{AreCounted, count}
+use Rattle.sop_pages.specs.Moves.{times, Covers}
 use Rattle.sop_pages.proofs.MoveLemmas.{same_or}
-use Rattle.sop_cells.specs.declared.place.Place.{Place}
 use Rattle.sop_cells.specs.Places.{own}
 use Rattle.sop_cells.specs.Shelves.{ShelfPages, Shifts}
 use Rattle.sop_cells.proofs.PlaceLemmas.{own-append, same_shelf_pages}
@@ -18,10 +17,10 @@ use Rattle.sop_model.specs.declared.class.Class.TheVariants.{Detail, Prim, Point
 use Rattle.sop_sheets.specs.Sheets.{SheetLists, sheet_room, places_of, geo_of, IsSheet, IsSheetStep, Becomes, Stays}
 use Rattle.sop_sheets.proofs.SheetLemmas.{sheet_kept}
 use Rattle.sop_sheets.proofs.ViewLemmas.{sheet_held}
-use Rattle.sop_vault.specs.Keyed.{Keyed, at, Changes, Adds, AreSame}
-use Rattle.sop_vault.specs.Counted.{slot_places, holds, IsSlot, all_seen}
-use Rattle.sop_vault.specs.Vaults.{VaultMap, pages_held, shares_of, vault_of, Counted, Changed, Added, IsAsBefore}
-use Rattle.sop_vault.proofs.KeyedLemmas.{total_at, set_here, set_other}
+use Rattle.sop_vault.specs.Keyed.{Keyed, at, Changes}
+use Rattle.sop_vault.specs.Counted.{slot_places, IsSlot, all_seen}
+use Rattle.sop_vault.specs.Vaults.{VaultMap, pages_held, vault_of, Counted, Changed, Added, IsAsBefore}
+use Rattle.sop_vault.proofs.KeyedLemmas.{set_here, set_other}
 use Rattle.sop_vault.proofs.StepLemmas.{IsFramed, seen_at, key_covered, key_kept, key_seen, counts_room, times_length, step_counted, step_slots, step_changes}
 
 -- sheets whose pages all have another place are what they were

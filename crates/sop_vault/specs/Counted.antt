@@ -1,5 +1,5 @@
 -- What a vault keeps at its keys, whatever it is: its places are counted, each page once for each place that holds it, and each is well kept.
-use Rattle.std.specs.Prelude.{⊤, ◌≡◌, ℕ, List, [], ◌∷◌, Option, Some, None, map, option_map}
+use Rattle.std.specs.Prelude.{⊤, ◌≡◌, ℕ, List, [], Option, Some, None, map, option_map}
 use Rattle.sop_pages.specs.Pages.{count}
 use Rattle.sop_pages.specs.Moves.{times}
 use Rattle.sop_cells.specs.declared.place.Place.{Place}

@@ -1,6 +1,6 @@
 -- Why a call of a vault may be refused, by the geometry that stood there. Want of memory may come from any of them. Of two causes the
 -- one that is named first comes.
-use Rattle.std.specs.Prelude.{⊤, ◌≡◌, ◌≢◌, ℕ, Bool, false, List, Option, None, codes}
+use Rattle.std.specs.Prelude.{⊤, ◌≡◌, ◌≢◌, ℕ, Bool, false, List, None, codes}
 use Rattle.std.specs.Str.{bytes_eq}
 use Rattle.sop_model.specs.declared.class.Class.{Class}
 use Rattle.sop_model.specs.declared.class.Class.TheVariants.{Detail, Prim, Point, Vertex}

@@ -10,8 +10,8 @@ ghost use Rattle.sop_vault.specs.Refusals.{points_refused};
 
 use crate::vault::{GeoKey, Vault};
 use crate::vault_end::VaultEnd;
-use sop_model::limits::MOST_POINTS;
 use sop_model::Class;
+use sop_model::limits::MOST_POINTS;
 
 impl<'b> Vault<'b> {
     /// Adds `more` points behind the others, with defaults and in no group. Full pages stay shared. `Limit` where the geometry would

@@ -8,8 +8,9 @@ use std::test::Fail;
 fn geometries_are_shared_and_dropped(rt: HostRuntime) -> Result<(), Fail> {
     let mut vault = Vault::new(rt.alloc());
     let first = vault.empty()?;
+    vault.add_points(first, 2)?;
     let second = vault.share(first)?;
-    assert_eq!(rt; vault.view(second).count(Class::Point), 0);
+    assert_eq!(rt; vault.view(second).count(Class::Point), 2);
     vault.drop_geo(first);
     vault.drop_geo(second);
     assert_eq!(rt; vault.pages(), 0);

@@ -1,4 +1,4 @@
-use Rattle.std.proofs.Common.{◌≡◌, ◌<◌, ◌∙◌, ℕ, length, ap, sym, subst, refl}
+use Rattle.std.proofs.Common.{refl}
 use Rattle.sop_columns.proofs.NameLemmas.{grows_none}
 use Rattle.sop_sheets.proofs.CallLemmas.{ok_three, on_err, stays_still, group_becomes}
 use Rattle.sop_sheets.proofs.sheet.Sheet.add_group.Goals as goal

@@ -1,4 +1,4 @@
-use Rattle.std.proofs.Common.{◌≡◌, ◌+◌, ◌≤◌, ap, sym, subst, refl, arith}
+use Rattle.std.proofs.Common.{◌+◌, ◌≤◌, ap, sym, subst, refl, arith}
 use Rattle.std.specs.Prelude.{OnOk}
 use Rattle.sop_model.specs.declared.class.Class.TheVariants.{Point}
 use Rattle.sop_model.specs.Geometry.{count_of}
@@ -41,6 +41,6 @@ returns-clause-ok c =
     let after = λ (sheet : SheetLists). OnOk c.grow.result (Becomes c.args.shelf.now c.grow.new.shelf c.args.names.now c.grow.new.names sheet (the_view (record c.self.inside { point = c.grow.new.table })) (points_added (geo_of c.args.shelf.now c.args.names.now sheet) c.args.more)) in
     subst after v
     (ok_three c.grow.result (λ set rows step.
-        points_becomes c.args.shelf.now c.grow.new.shelf c.args.names.now c.grow.new.names (the_view c.self.inside) (the_view (record c.self.inside { point = c.grow.new.table }))
-        (subst was (sym v) c.requires.sheet) (subst covered (sym v) c.requires.held.covered) refl step c.args.more (subst few (sym v) c.requires.few) set rows)
+    points_becomes c.args.shelf.now c.grow.new.shelf c.args.names.now c.grow.new.names (the_view c.self.inside) (the_view (record c.self.inside { point = c.grow.new.table }))
+    (subst was (sym v) c.requires.sheet) (subst covered (sym v) c.requires.held.covered) refl step c.args.more (subst few (sym v) c.requires.few) set rows)
     e.set e.rows e.step)

@@ -1,5 +1,4 @@
-use Rattle.std.proofs.Common.{◌≡◌, ◌<◌, ◌∙◌, ℕ, length, ap, sym, subst, refl}
-use Rattle.std.specs.Prelude.{Result, Ok, Err, IfErr}
+use Rattle.std.proofs.Common.{◌∙◌, ap, sym, refl}
 use Rattle.sop_tables.specs.Tables.{TableLists}
 use Rattle.sop_columns.proofs.NameLemmas.{grows_none}
 use Rattle.sop_sheets.proofs.ViewLemmas.{count_in, table_in}

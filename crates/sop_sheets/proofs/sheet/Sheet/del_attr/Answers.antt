@@ -1,4 +1,4 @@
-use Rattle.std.proofs.Common.{◌≡◌, ◌<◌, ◌∙◌, ℕ, length, ap, sym, subst, refl}
+use Rattle.std.proofs.Common.{refl}
 use Rattle.sop_sheets.proofs.ViewLemmas.{table_in}
 use Rattle.sop_sheets.proofs.CallLemmas.{gone_becomes}
 use Rattle.sop_sheets.proofs.sheet.Sheet.del_attr.Goals as goal

@@ -1,11 +1,9 @@
-use Rattle.std.proofs.Common.{◌≡◌, ◌∙◌, ℕ, List, replicate, ap, sym, subst, refl}
+use Rattle.std.proofs.Common.{◌∙◌, ℕ, replicate, ap, sym, subst, refl}
 use Rattle.sop_model.specs.declared.geo.HeadSet.{HeadSet}
-use Rattle.sop_model.specs.declared.geo.Row.{Row}
-use Rattle.sop_model.specs.Geometry.{no_heads, only_position, empty_geo}
+use Rattle.sop_model.specs.Geometry.{empty_geo}
 use Rattle.sop_model.specs.Rows.{default_row}
 use Rattle.sop_shape.specs.Shapes.{HasShape}
-use Rattle.sop_tables.specs.Tables.{IsNoStep, rows}
-use Rattle.sop_sheets.proofs.CallLemmas.{on_err, err_by}
+use Rattle.sop_sheets.proofs.CallLemmas.{err_by}
 use Rattle.sop_sheets.proofs.MadeLemmas.{bare_step, no_step_then, no_step, empty_made, empty_is}
 use Rattle.sop_sheets.proofs.sheet.Sheet.empty.Goals as goal
 

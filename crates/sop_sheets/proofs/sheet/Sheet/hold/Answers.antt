@@ -1,4 +1,4 @@
-use Rattle.std.proofs.Common.{◌≡◌, [], ◌++◌, List, ap, sym, subst}
+use Rattle.std.proofs.Common.{[], ◌++◌, List, ap, sym, subst}
 use Rattle.sop_cells.specs.declared.place.Place.{Place}
 use Rattle.sop_cells.specs.Shelves.{Shifts}
 use Rattle.sop_tables.specs.Tables.{IsHeld, HasRoom, places_in}

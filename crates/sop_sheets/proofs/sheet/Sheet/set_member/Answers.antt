@@ -1,5 +1,4 @@
-use Rattle.std.proofs.Common.{◌≡◌, ◌<◌, ◌∙◌, ℕ, ap, sym, subst, refl}
-use Rattle.sop_sheets.specs.Sheets.{table_of}
+use Rattle.std.proofs.Common.{◌<◌, ℕ, sym, subst, refl}
 use Rattle.sop_columns.proofs.NameLemmas.{grows_none}
 use Rattle.sop_sheets.proofs.ViewLemmas.{count_in, table_in}
 use Rattle.sop_sheets.proofs.CallLemmas.{on_ok, on_err, stays_still, member_becomes}

@@ -1,6 +1,5 @@
-use Rattle.std.proofs.Common.{◌≡◌, ◌<◌, ◌∙◌, ℕ, ap, sym, subst, refl}
+use Rattle.std.proofs.Common.{◌<◌, ℕ, ap, sym, subst, refl}
 use Rattle.sop_tables.specs.Tables.{TableLists}
-use Rattle.sop_sheets.specs.Sheets.{table_of}
 use Rattle.sop_sheets.proofs.ViewLemmas.{count_in, table_in}
 use Rattle.sop_sheets.proofs.CallLemmas.{on_ok, on_err, stays_still, value_becomes}
 use Rattle.sop_sheets.proofs.sheet.Sheet.set_value.Goals as goal

@@ -1,7 +1,6 @@
-use Rattle.std.proofs.Common.{◌≡◌, ◌<◌, ◌∙◌, ℕ, List, length, map, replicate, ap, sym, subst, refl}
+use Rattle.std.proofs.Common.{◌∙◌, map, replicate, ap, refl}
 use Rattle.std.specs.Prelude.{slice_index_or, pos}
 use Rattle.sop_model.specs.declared.geo.Row.{Row}
-use Rattle.sop_model.specs.declared.geo.HeadSet.{HeadSet}
 use Rattle.sop_model.specs.declared.value.Value.TheVariants as value
 use Rattle.sop_model.specs.Rows.{rows_held}
 use Rattle.sop_tables.specs.Tables.{TableLists, default_at}

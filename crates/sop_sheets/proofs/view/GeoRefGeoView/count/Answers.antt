@@ -1,4 +1,4 @@
-use Rattle.std.proofs.Common.{◌≡◌, ◌∙◌}
+use Rattle.std.proofs.Common.{◌∙◌}
 use Rattle.sop_sheets.proofs.ViewLemmas.{count_in}
 use Rattle.sop_sheets.proofs.view.GeoRefGeoView.count.Goals as goal
 

@@ -1,4 +1,4 @@
-use Rattle.std.proofs.Common.{◌≡◌, ◌<◌, ◌∙◌, ℕ, length, ap, sym, subst}
+use Rattle.std.proofs.Common.{◌<◌, ◌∙◌, ℕ, length, ap, sym, subst}
 use Rattle.sop_shape.specs.Shapes.{ShapeLists, HasShape}
 use Rattle.sop_sheets.proofs.ViewLemmas.{prims_in, shape_in}
 use Rattle.sop_sheets.proofs.view.GeoRefGeoView.size.Goals as goal

@@ -1,10 +1,6 @@
-use Rattle.std.proofs.Common.{◌≡◌, ◌<◌, ◌∙◌, ℕ, List, length, ap, sym, subst, refl}
-use Rattle.std.specs.Prelude.{Option, Some, None, IfSome, IfErr}
+use Rattle.std.proofs.Common.{ℕ, List, sym, subst}
 use Rattle.sop_model.specs.declared.geo.Geo.{Geo}
-use Rattle.sop_model.specs.declared.geo.Head.{Head}
-use Rattle.sop_model.specs.Limits.{most_heads}
-use Rattle.sop_model.specs.Geometry.{heads_of}
-use Rattle.sop_model.specs.Rows.{head_named, attr_added}
+use Rattle.sop_model.specs.Rows.{attr_added}
 use Rattle.sop_sheets.specs.Sheets.{geo_of, Becomes}
 use Rattle.sop_vault.specs.Keyed.{at}
 use Rattle.sop_vault.proofs.VaultLemmas.{here_held, call_counted, stays_counted, changed_clause, kept_clause, unchanged, err_by}

@@ -1,8 +1,8 @@
-use Rattle.std.proofs.Common.{◌≡◌, ◌<◌, ◌∙◌, ℕ, List, length, ap, sym, subst, refl}
+use Rattle.std.proofs.Common.{ℕ, List, sym, subst}
 use Rattle.sop_model.specs.declared.geo.Geo.{Geo}
 use Rattle.sop_model.specs.Rows.{group_added}
 use Rattle.sop_sheets.specs.Sheets.{geo_of, Becomes}
-use Rattle.sop_vault.proofs.VaultLemmas.{here_held, call_counted, stays_counted, changed_clause, kept_clause, unchanged, err_by}
+use Rattle.sop_vault.proofs.VaultLemmas.{here_held, call_counted, changed_clause, unchanged, err_by}
 use Rattle.sop_vault.proofs.vault.Vault.add_group.Goals as goal
 
 pub returns-in-Err-clause-err : goal.returns-in-Err-clause-err

@@ -1,6 +1,4 @@
-use Rattle.std.proofs.Common.{◌≡◌, ◌+◌, ◌<◌, ◌≤◌, ◌^◌, ◌∙◌, ℕ, length, ap, sym, subst, refl, arith}
-use Rattle.std.specs.Prelude.{Option, Some, None, IfSome, IfErr}
-use Rattle.sop_model.specs.declared.class.Class.TheVariants.{Point}
+use Rattle.std.proofs.Common.{◌<◌, ◌^◌, length, sym, arith}
 use Rattle.sop_model.specs.declared.geo.Geo.{Geo}
 use Rattle.sop_model.specs.Rows.{points_added}
 use Rattle.sop_vault.proofs.VaultLemmas.{here_held, room_for_here, call_counted, stays_counted, changed_clause, kept_clause, unchanged, err_by}

@@ -1,4 +1,4 @@
-use Rattle.std.proofs.Common.{◌≡◌, ◌∙◌, List, length, map, ap, sym, subst, refl}
+use Rattle.std.proofs.Common.{◌≡◌, length, map, ap, sym, subst}
 use Rattle.std.specs.Prelude.{All}
 use Rattle.sop_model.specs.declared.geo.Geo.{Geo}
 use Rattle.sop_model.specs.Geometry.{count_of}

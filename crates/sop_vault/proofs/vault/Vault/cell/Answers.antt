@@ -1,4 +1,4 @@
-use Rattle.std.proofs.Common.{◌≡◌, [], refl}
+use Rattle.std.proofs.Common.{[], refl}
 use Rattle.sop_cells.proofs.PlaceLemmas.{stays}
 use Rattle.sop_vault.proofs.VaultLemmas.{idle_counted, idle_before}
 use Rattle.sop_vault.proofs.vault.Vault.cell.Goals as goal

@@ -1,8 +1,7 @@
-use Rattle.std.proofs.Common.{◌≡◌, ◌<◌, ◌∙◌, ℕ, length, ap, sym, subst, refl}
-use Rattle.std.specs.Prelude.{Option, Some, None, IfSome}
+use Rattle.std.proofs.Common.{◌≡◌, ◌∙◌, sym}
 use Rattle.sop_model.specs.declared.geo.Geo.{Geo}
-use Rattle.sop_model.specs.Rows.{head_named, attr_deleted}
-use Rattle.sop_vault.proofs.VaultLemmas.{here_held, call_counted, changed_clause, unchanged}
+use Rattle.sop_model.specs.Rows.{head_named}
+use Rattle.sop_vault.proofs.VaultLemmas.{here_held, call_counted, unchanged}
 use Rattle.sop_vault.proofs.HeadLemmas.{asked, apart_here, gone_clause}
 use Rattle.sop_vault.proofs.vault.Vault.del_attr.Goals as goal
 

@@ -1,4 +1,4 @@
-use Rattle.std.proofs.Common.{◌≡◌, ◌∙◌, ℕ, ap, sym, subst, refl}
+use Rattle.std.proofs.Common.{ℕ, subst, refl}
 use Rattle.std.specs.Prelude.{Some, None}
 use Rattle.sop_columns.proofs.NameLemmas.{grows_none}
 use Rattle.sop_vault.specs.Vaults.{VaultMap, vault_of, Changed}

@@ -1,5 +1,5 @@
-use Rattle.std.proofs.Common.{◌≡◌, ◌∙◌, ℕ, List, ap, sym, subst, refl}
-use Rattle.std.specs.Prelude.{Option, Some, None}
+use Rattle.std.proofs.Common.{◌≡◌, ◌∙◌, ap, sym, subst, refl}
+use Rattle.std.specs.Prelude.{Some, None}
 use Rattle.sop_model.specs.Geometry.{empty_geo}
 use Rattle.sop_vault.specs.Vaults.{VaultMap, vault_of, Counted, Added}
 use Rattle.sop_vault.proofs.VaultLemmas.{step_kept, step_added, idle_counted, idle_before, as_before, err_by}

@@ -1,4 +1,4 @@
-use Rattle.std.proofs.Common.{◌≡◌, ◌+◌, ◌≤◌, ℕ, sym, ◌∙◌, subst, refl, arith}
+use Rattle.std.proofs.Common.{◌+◌, ◌≤◌, sym, ◌∙◌, refl, arith}
 use Rattle.std.specs.Prelude.{◌↔◌, IsTrue}
 use Rattle.std.proofs.lemmas.Bool.Decides.{nat_tests}
 use Rattle.sop_model.specs.declared.class.Class.TheVariants.{Point}

@@ -1,4 +1,4 @@
-use Rattle.std.proofs.Common.{◌≡◌, ◌∙◌, ap, sym, subst, refl}
+use Rattle.std.proofs.Common.{sym}
 use Rattle.sop_model.specs.declared.geo.Geo.{Geo}
 use Rattle.sop_model.specs.Rows.{member_set}
 use Rattle.sop_vault.proofs.VaultLemmas.{here_held, call_counted, stays_counted, changed_clause, kept_clause, err_by}

@@ -1,9 +1,8 @@
-use Rattle.std.proofs.Common.{◌≡◌, ◌<◌, ◌^◌, ◌∙◌, ℕ, List, length, ap, sym, subst, refl, arith}
-use Rattle.std.specs.Prelude.{Option, Some, None, Result, OnErr}
+use Rattle.std.proofs.Common.{◌≡◌, ◌<◌, ◌^◌, ◌∙◌, length, ap, sym, subst, refl, arith}
+use Rattle.std.specs.Prelude.{Some, None}
 use Rattle.sop_columns.proofs.NameLemmas.{grows_none}
-use Rattle.sop_sheets.specs.Sheets.{SheetLists}
-use Rattle.sop_vault.specs.Keyed.{Keyed, at}
-use Rattle.sop_vault.specs.Vaults.{VaultMap, vault_of, Counted, Added, IsAsBefore}
+use Rattle.sop_vault.specs.Keyed.{at}
+use Rattle.sop_vault.specs.Vaults.{VaultMap, vault_of, Counted, Added}
 use Rattle.sop_vault.proofs.VaultLemmas.{here_held, seen_here, room_here, step_kept, step_added, shared_sheet, as_before, err_by}
 use Rattle.sop_vault.proofs.vault.Vault.share.Goals as goal
 use Rattle.sop_vault.proofs.vault.Vault.share.Goals.{After-reserve, After-capacity-capacity}

@@ -1,8 +1,8 @@
-use Rattle.std.proofs.Common.{◌≡◌, ◌∙◌, List, map, ap, sym, subst, refl}
+use Rattle.std.proofs.Common.{◌≡◌, ◌∙◌, map, ap, sym}
 use Rattle.sop_model.specs.declared.geo.Geo.{Geo}
 use Rattle.sop_model.specs.Rows.{column_of, column_cleared}
 use Rattle.sop_cells.specs.Shelves.{joined}
-use Rattle.sop_columns.specs.Names.{NameTable, value_of}
+use Rattle.sop_columns.specs.Names.{value_of}
 use Rattle.sop_vault.specs.Vaults.{VaultMap}
 use Rattle.sop_vault.proofs.VaultLemmas.{here_held, call_counted, stays_counted, changed_clause, kept_clause, err_by}
 use Rattle.sop_vault.proofs.HeadLemmas.{told}

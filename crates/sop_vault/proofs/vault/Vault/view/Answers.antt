@@ -1,4 +1,4 @@
-use Rattle.std.proofs.Common.{◌≡◌, sym}
+use Rattle.std.proofs.Common.{sym}
 use Rattle.sop_vault.proofs.VaultLemmas.{here_held}
 use Rattle.sop_vault.proofs.vault.Vault.view.Goals as goal
 
