@@ -10,7 +10,7 @@ ghost use Rattle.sop_sheets.specs.Sheets.{places_of, geo_of, IsSheet, Becomes, S
 use crate::sheet::Sheet;
 use sop_cells::Shelf;
 use sop_columns::Names;
-use sop_tables::Table;
+use sop_tables::{Change, Table};
 use std::alloc::AllocError;
 use std::mem;
 
@@ -54,7 +54,7 @@ fn grow(
         table.occupy(more, shelf, names);
         return Ok(());
     }
-    let longer = table.longer(more, shelf, names)?;
+    let longer = table.changed(Change::Longer(more), shelf, names)?;
     let old = mem::replace(table, longer);
     old.release(shelf);
     Ok(())

@@ -6,6 +6,7 @@ mod columns;
 mod growing;
 mod heads;
 mod made;
+mod remade;
 mod sheet;
 mod topology;
 mod view;

@@ -15,7 +15,8 @@ use Rattle.sop_columns.specs.Names.{NameTable}
 use Rattle.sop_columns.specs.Bits.{flag}
 use Rattle.sop_tables.specs.Transposed.{tabulated, items_at, append_each, filled_each}
 use Rattle.sop_tables.specs.Tables.{TableLists, held, rows, AreColumns, AreMembers, IsTable}
-use Rattle.sop_tables.specs.Changes.{head_at, values_or, has_or, rows_after, rows_wanted, ArePicks}
+use Rattle.sop_tables.specs.Changes.{head_at, values_or, has_or, rows_after, rows_wanted, rows_changed, Fits, ArePicks}
+use Rattle.sop_tables.specs.declared.changed.Change.{Change}
 use Rattle.sop_tables.specs.declared.changed.Change.TheVariants.{Longer, Picked}
 use Rattle.sop_tables.proofs.RowLemmas.{AreOf, rows_longer, rows_picked}
 use Rattle.sop_tables.proofs.ColumnLemmas.{length-held, length-columns}
@@ -85,3 +86,9 @@ module _ (s : ShelfPages) (n : NameTable) (tb : TableLists) (is : IsTable s n tb
       (λ i. (flags_here s tb.members (length tb.set.groups) (get_or numbers.now i 0) is.groups ∙ sym (read_at numbers.now (map (flag s) tb.members) i)) j))
       ∙ rows_picked (map (held s n tb.count) tb.columns) (map (flag s) tb.members) tb.count numbers.now (at_numbers numbers.now (map (flag s) tb.members)) picks.within
       (λ j l. read_at numbers.now (map (flag s) tb.members) j)
+
+  -- CHANGE BY CHANGE
+
+  pub changed_as : (change : Change) → Fits s n tb change → rows_after s n tb change ≡ rows_changed s n tb change
+  changed_as (Longer more) f = longer_rows more
+  changed_as (Picked numbers) f = picked_rows numbers f

@@ -7,12 +7,14 @@ use Rattle.sop_model.specs.declared.value.Kind.TheVariants as kind
 use Rattle.sop_model.specs.declared.value.Value.{Value}
 use Rattle.sop_model.specs.Limits.{most_vertices}
 use Rattle.sop_model.specs.Values.{default_of}
+use Rattle.sop_model.specs.Geometry.{empty_row}
+use Rattle.sop_model.specs.Rows.{default_row, picked}
 use Rattle.sop_cells.specs.declared.place.Place.{Place}
 use Rattle.sop_cells.specs.Shelves.{ShelfPages, column, Shifts}
 use Rattle.sop_columns.specs.Names.{NameTable, Grows}
 use Rattle.sop_columns.specs.Bits.{flag, placed}
 use Rattle.sop_tables.specs.Transposed.{tabulated, item, items_at}
-use Rattle.sop_tables.specs.Tables.{TableLists, flat, places_in, held, IsTable, IsHeld, IsColumnOf, AreColumns, AreMembers}
+use Rattle.sop_tables.specs.Tables.{TableLists, flat, places_in, held, rows, IsTable, IsHeld, IsColumnOf, AreColumns, AreMembers}
 use Rattle.sop_tables.specs.declared.changed.Change.{Change}
 use Rattle.sop_tables.specs.declared.changed.Change.TheVariants.{Longer, Picked}
 
@@ -83,6 +85,11 @@ abbrev pub rows_after : ShelfPages → NameTable → TableLists → Change → L
 rows_after s n t change =
     let set = set_after t.set change in
     rows_wanted (count_after t.count change) (all_values_after s n t change set.heads (length set.heads)) (all_flags_after s t change set.groups (length set.groups))
+
+-- the same rows, told by those of the table that it is made of
+abbrev pub rows_changed : ShelfPages → NameTable → TableLists → Change → List Row
+rows_changed s n t (Longer more) = rows s n t ++ replicate more (default_row t.set)
+rows_changed s n t (Picked numbers) = picked (rows s n t) empty_row numbers.now
 
 -- WHERE A NEW TABLE CAN BE MADE
 

@@ -27,49 +27,33 @@ pub enum Change<'a> {
 }
 
 impl Table {
-    /// A table of the same elements and, behind them, of `more` with defaults, in no group. Its columns share their full
-    /// pages with this one, which stays. `Err` for want of memory.
-    pub fn longer(
+    /// A table made of this one's elements, beside it: `change` says of which, and what comes to them. It shares what whole pages it
+    /// can with this one, which stays. `Err` for want of memory.
+    pub fn changed(
         &self,
-        more: u32,
+        change: Change<'_>,
         shelf: &mut Shelf<'_>,
         names: &mut Names,
     ) -> Result<Table, AllocError>
-        requires table { IsTable shelf.old names.old self.now }
-        requires held { IsHeld shelf.old (places_in self.now) }
+        requires source { IsSource shelf.old names.old self.now change }
         requires room { HasRoomFor shelf.old table_room }
-        requires most { self.now.count + more ≤ most_vertices }
-        ensures set { IfOk result (λ t. t.set ≡ self.now.set) }
-        ensures count { IfOk result (λ t. t.count ≡ self.now.count + more) }
-        ensures rows { IfOk result (λ t. rows shelf.new names.new t ≡ rows shelf.old names.old self.now ++ replicate more (default_row self.now.set)) }
+        ensures set { IfOk result (λ t. t.set ≡ set_after self.now.set change.entry) }
+        ensures count { IfOk result (λ t. t.count ≡ count_after self.now.count change.entry) }
+        ensures rows { IfOk result (λ t. rows shelf.new names.new t ≡ rows_changed shelf.old names.old self.now change.entry) }
         ensures made { IfOk result (IsTableMade shelf.old shelf.new names.old names.new) }
         ensures err { OnErr result (IsNoStep shelf.old shelf.new names.old names.new) }
     {
-        let set = self.set.copy(self.alloc)?;
-        self.changed(Change::Longer(more), set, shelf, names)
+        let set = self.set_after(change)?;
+        self.changed_under(change, set, shelf, names)
     }
 
-    /// A table of the elements with these numbers, in this order. Each number must be below `count`. This table stays.
-    /// `Err` for want of memory.
-    pub fn picked(
-        &self,
-        numbers: &[u32],
-        shelf: &mut Shelf<'_>,
-        names: &mut Names,
-    ) -> Result<Table, AllocError>
-        requires table { IsTable shelf.old names.old self.now }
-        requires held { IsHeld shelf.old (places_in self.now) }
-        requires room { HasRoomFor shelf.old table_room }
-        requires within { All (λ i. i < self.now.count) numbers.now }
-        requires most { length numbers.now ≤ most_vertices }
-        ensures set { IfOk result (λ t. t.set ≡ self.now.set) }
-        ensures count { IfOk result (λ t. t.count ≡ length numbers.now) }
-        ensures rows { IfOk result (λ t. rows shelf.new names.new t ≡ picked (rows shelf.old names.old self.now) empty_row numbers.now) }
-        ensures made { IfOk result (IsTableMade shelf.old shelf.new names.old names.new) }
-        ensures err { OnErr result (IsNoStep shelf.old shelf.new names.old names.new) }
+    // The attributes and groups of the new table.
+    fn set_after(&self, change: Change<'_>) -> Result<HeadSet, AllocError>
+        ensures { IfOk result (λ set. set ≡ set_after self.now.set change.entry) }
     {
-        let set = self.set.copy(self.alloc)?;
-        self.changed(Change::Picked(numbers), set, shelf, names)
+        match change {
+            Change::Longer(_) | Change::Picked(_) => self.set.copy(self.alloc),
+        }
     }
 
     // New columns beside the old ones, one for each head of the new table. For want of memory none is left.
@@ -203,8 +187,8 @@ impl Table {
         }
     }
 
-    /// The new table under these heads and groups, beside the others. For want of memory nothing is left of it.
-    pub(crate) fn changed(
+    // The new table under these heads and groups, beside the others. For want of memory nothing is left of it.
+    fn changed_under(
         &self,
         change: Change<'_>,
         set: HeadSet,

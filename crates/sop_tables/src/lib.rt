@@ -10,6 +10,7 @@ mod lots;
 mod spare;
 mod table;
 
+pub use changed::Change;
 pub use table::Table;
 
 #[cfg(test)]

@@ -1,27 +1,16 @@
-use Rattle.sop_tables.proofs.MadeLemmas.{columns_held, columns_room, columns_gone, still_held}
-use Rattle.sop_tables.proofs.SourceLemmas.{source_stays, changed_made, changed_rows, after_most, all_heads_few}
+use Rattle.std.proofs.Common.{◌≡◌, List, refl, subst}
+use Rattle.std.specs.Prelude.{IfOk}
+use Rattle.sop_model.specs.declared.geo.Row.{Row}
 use Rattle.sop_columns.proofs.NameLemmas.{grows_none}
+use Rattle.sop_tables.specs.Tables.{rows}
+use Rattle.sop_tables.proofs.MadeLemmas.{on_err, no_step}
+use Rattle.sop_tables.proofs.ChangedRows.{changed_as}
 use Rattle.sop_tables.proofs.table.Table.changed.Goals as goal
 
-pub new_members-requires-clause-source : goal.new_members-requires-clause-source
-new_members-requires-clause-source c =
-    let made = c.in_ok-columns.ensures.made in source_stays c.args.shelf.now c.new_columns.new.shelf c.args.names.now c.new_columns.new.names _ made.shifts made.grows c.args.self.now c.args.change c.requires.source
+pub returns-in_err-set-clause-err : goal.returns-in_err-set-clause-err
+returns-in_err-set-clause-err c = on_err _ (no_step _ _ _ _ refl (grows_none _))
 
-pub new_members-requires-clause-room : goal.new_members-requires-clause-room
-new_members-requires-clause-room c =
-    columns_room c.args.shelf.now c.new_columns.new.shelf c.args.names.now c.new_columns.new.names _ _ _ _ c.in_ok-columns.ensures.made (after_most _ _ _ _ c.requires.source) (all_heads_few _ _ _ c.args.change c.args.set c.requires.source c.requires.set) c.requires.room
-
-pub release_columns-requires : goal.release_columns-requires
-release_columns-requires c = record { held = still_held c.new_columns.new.shelf c.new_members.new.shelf _ _ c.in-Err.ensures.err (columns_held _ _ _ _ _ _ _ _ c.in_ok-columns.ensures.made) }
-
-pub returns-in-Err-clause-err : goal.returns-in-Err-clause-err
-returns-in-Err-clause-err c =
-    columns_gone _ _ _ _ _ _ _ _ c.in_ok-columns.ensures.made c.new_members.new.shelf c.new_columns.new.names _ (record { shifts = c.in-Err.ensures.err; grows = grows_none _ }) c.release_columns.ensures.shifts
-
-pub returns-in-Ok-clause-made : goal.returns-in-Ok-clause-made
-returns-in-Ok-clause-made c =
-    changed_made c.args.shelf.now c.new_columns.new.shelf c.new_members.new.shelf c.args.names.now c.new_columns.new.names c.args.self.now c.args.change c.args.set c.requires.source c.requires.set _ _ c.in_ok-columns.ensures.made c.in-Ok.ensures.made _ c.count_after-count.ensures
-
-pub returns-in-Ok-clause-rows : goal.returns-in-Ok-clause-rows
-returns-in-Ok-clause-rows c =
-    changed_rows c.args.shelf.now c.new_columns.new.shelf c.new_members.new.shelf c.args.names.now c.new_columns.new.names c.args.self.now c.args.change c.args.set c.requires.source c.requires.set _ _ c.in_ok-columns.ensures.made c.in-Ok.ensures.made _ c.count_after-count.ensures
+pub returns-clause-rows : goal.returns-clause-rows
+returns-clause-rows c =
+    let P : List Row → Type 0 = λ x. IfOk c.changed_under.result (λ t. rows c.changed_under.new.shelf c.changed_under.new.names t ≡ x) in
+    subst P (changed_as c.args.shelf.now c.args.names.now c.args.self.now c.requires.source.table c.args.change c.requires.source.fits) c.changed_under.ensures.rows

@@ -1,0 +1,28 @@
+-- A sheet made beside another, class by class.
+use Rattle.std.specs.Prelude.{◌≡◌, [], IfOk}
+use Rattle.sop_model.specs.declared.class.Class.{Class}
+use Rattle.sop_model.specs.declared.class.Class.TheVariants.{Detail, Prim, Point, Vertex}
+use Rattle.sop_shape.specs.Shapes.{ShapeLists}
+use Rattle.sop_cells.specs.Shelves.{ShelfPages, Shifts}
+use Rattle.sop_columns.specs.Names.{NameTable, Grows}
+use Rattle.sop_tables.specs.Tables.{rows, IsTable}
+use Rattle.sop_tables.specs.Changes.{set_after, rows_changed}
+use Rattle.sop_tables.specs.declared.changed.Change.{Change}
+use Rattle.sop_sheets.specs.declared.remade.Changes.{Changes}
+use Rattle.sop_sheets.specs.Sheets.{SheetLists, table_of, places_of}
+
+-- what becomes of a class
+abbrev pub change_of : Changes → Class → Change
+change_of changes Detail = changes.detail
+change_of changes Prim = changes.prim
+change_of changes Point = changes.point
+change_of changes Vertex = changes.vertex
+
+-- each table of the new sheet is made of the one of the old sheet, beside it, and the new sheet has this shape
+pub record IsRemade (s t : ShelfPages) (n m : NameTable) (old : SheetLists) (changes : Changes) (shape : ShapeLists) (new : SheetLists) : Type 0 where
+  pub shifts : Shifts s t [] (places_of new)
+  pub grows : Grows n m
+  pub tables : (class : Class) → IsTable t m (table_of new class)
+  pub sets : (class : Class) → (table_of new class).set ≡ set_after (table_of old class).set (change_of changes class)
+  pub rows : (class : Class) → rows t m (table_of new class) ≡ rows_changed s n (table_of old class) (change_of changes class)
+  pub shape : new.shape ≡ shape
