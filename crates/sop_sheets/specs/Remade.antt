@@ -1,5 +1,5 @@
--- A sheet made beside another, class by class.
-use Rattle.std.specs.Prelude.{◌≡◌, [], IfOk}
+-- Tables made beside those of a sheet, class by class.
+use Rattle.std.specs.Prelude.{◌≡◌, []}
 use Rattle.sop_model.specs.declared.class.Class.{Class}
 use Rattle.sop_model.specs.declared.class.Class.TheVariants.{Detail, Prim, Point, Vertex}
 use Rattle.sop_shape.specs.Shapes.{ShapeLists}
@@ -9,6 +9,7 @@ use Rattle.sop_tables.specs.Tables.{rows, IsTable}
 use Rattle.sop_tables.specs.Changes.{set_after, rows_changed}
 use Rattle.sop_tables.specs.declared.changed.Change.{Change}
 use Rattle.sop_sheets.specs.declared.remade.Changes.{Changes}
+use Rattle.sop_sheets.specs.declared.remade.Tables.{Tables}
 use Rattle.sop_sheets.specs.Sheets.{SheetLists, table_of, places_of}
 
 -- what becomes of a class
@@ -18,11 +19,14 @@ change_of changes Prim = changes.prim
 change_of changes Point = changes.point
 change_of changes Vertex = changes.vertex
 
--- each table of the new sheet is made of the one of the old sheet, beside it, and the new sheet has this shape
-pub record IsRemade (s t : ShelfPages) (n m : NameTable) (old : SheetLists) (changes : Changes) (shape : ShapeLists) (new : SheetLists) : Type 0 where
+-- a sheet of these tables and this shape
+abbrev pub sheet_of : Tables → ShapeLists → SheetLists
+sheet_of made shape = record { detail = made.detail; prim = made.prim; point = made.point; vertex = made.vertex; shape = shape }
+
+-- each table of the new sheet is made of the one of the old sheet, beside it
+pub record IsRemade (s t : ShelfPages) (n m : NameTable) (old : SheetLists) (changes : Changes) (new : SheetLists) : Type 0 where
   pub shifts : Shifts s t [] (places_of new)
   pub grows : Grows n m
   pub tables : (class : Class) → IsTable t m (table_of new class)
   pub sets : (class : Class) → (table_of new class).set ≡ set_after (table_of old class).set (change_of changes class)
   pub rows : (class : Class) → rows t m (table_of new class) ≡ rows_changed s n (table_of old class) (change_of changes class)
-  pub shape : new.shape ≡ shape

@@ -1,18 +1,18 @@
 //! A geometry made beside another, class by class, and put in its place.
-ghost use Rattle.std.specs.Prelude.{◌≡◌, ◌^◌, [], IfOk, OnErr};
+ghost use Rattle.std.specs.Prelude.{◌≡◌, ◌≤◌, [], IfOk, OnErr};
+ghost use Rattle.sop_shape.specs.Shapes.{ShapeLists};
 ghost use Rattle.sop_model.specs.declared.class.Class.{Class};
 ghost use Rattle.sop_pages.specs.Pages.{live_pages};
 ghost use Rattle.sop_cells.specs.Shelves.{Shifts};
 ghost use Rattle.sop_tables.specs.Tables.{IsHeld, HasRoomFor, IsNoStep};
 ghost use Rattle.sop_tables.specs.Changes.{IsSource};
 ghost use Rattle.sop_sheets.specs.Sheets.{table_of, places_of, sheet_room};
-ghost use Rattle.sop_sheets.specs.Remade.{change_of, IsRemade};
+ghost use Rattle.sop_sheets.specs.Remade.{change_of, sheet_of, IsRemade};
 
 use crate::sheet::Sheet;
-use crate::topology::Topology;
 use sop_cells::Shelf;
 use sop_columns::Names;
-use sop_tables::Change;
+use sop_tables::{Change, Table};
 use std::alloc::AllocError;
 use std::mem;
 
@@ -25,19 +25,41 @@ pub(crate) struct Changes<'a> {
     pub(crate) vertex: Change<'a>,
 }
 
+/// A table for each class, made beside those of a sheet.
+#[derive(Drop)]
+pub(crate) struct Tables {
+    pub(crate) detail: Table,
+    pub(crate) prim: Table,
+    pub(crate) point: Table,
+    pub(crate) vertex: Table,
+}
+
+impl Tables {
+    /// Lets all their pages go. It takes no memory.
+    pub(crate) fn release(self, shelf: &mut Shelf<'_>)
+        requires held { (shape : ShapeLists) → IsHeld shelf.old (places_of (sheet_of self shape)) }
+        ensures shifts { (shape : ShapeLists) → Shifts shelf.old shelf.new (places_of (sheet_of self shape)) [] }
+        ensures pages { live_pages shelf.new.own ≤ live_pages shelf.old.own }
+    {
+        self.detail.release(shelf);
+        self.prim.release(shelf);
+        self.point.release(shelf);
+        self.vertex.release(shelf);
+    }
+}
+
 impl Sheet {
-    /// A sheet of this one's elements, beside it: `changes` says of which in each class, and what comes to them. This sheet stays. `Err`
-    /// for want of memory: then only names may have come.
+    /// Tables of this sheet's elements, beside it: `changes` says of which in each class, and what comes to them. This sheet stays.
+    /// `Err` for want of memory: then only names may have come.
     pub(crate) fn remade(
         &self,
         changes: Changes<'_>,
-        topology: Topology,
         shelf: &mut Shelf<'_>,
         names: &mut Names,
-    ) -> Result<Sheet, AllocError>
+    ) -> Result<Tables, AllocError>
         requires source { (class : Class) → IsSource shelf.old names.old (table_of self.now class) (change_of changes class) }
         requires room { HasRoomFor shelf.old sheet_room }
-        ensures made { IfOk result (IsRemade shelf.old shelf.new names.old names.new self.now changes.entry topology) }
+        ensures made { IfOk result (λ made. IsRemade shelf.old shelf.new names.old names.new self.now changes.entry (sheet_of made self.now.shape)) }
         ensures err { OnErr result (IsNoStep shelf.old shelf.new names.old names.new) }
     {
         let detail = self.detail.changed(changes.detail, shelf, names)?;
@@ -65,22 +87,26 @@ impl Sheet {
                 return Err(error);
             }
         };
-        Ok(Sheet {
+        Ok(Tables {
             detail,
             prim,
             point,
             vertex,
-            topology,
         })
     }
 
-    /// Puts a sheet that was made beside this one in its place, and lets this one's pages go. It takes no memory.
-    pub(crate) fn replace(&mut self, new: Sheet, shelf: &mut Shelf<'_>)
+    /// Puts tables that were made beside this sheet's in their place, and lets the pages of these go. It takes no memory.
+    pub(crate) fn replace(&mut self, made: Tables, shelf: &mut Shelf<'_>)
         requires held { IsHeld shelf.old (places_of self.old) }
-        ensures new { self.new ≡ new }
+        ensures new { self.new ≡ sheet_of made self.old.shape }
         ensures shifts { Shifts shelf.old shelf.new (places_of self.old) [] }
     {
-        let old = mem::replace(self, new);
+        let old = Tables {
+            detail: mem::replace(&mut self.detail, made.detail),
+            prim: mem::replace(&mut self.prim, made.prim),
+            point: mem::replace(&mut self.point, made.point),
+            vertex: mem::replace(&mut self.vertex, made.vertex),
+        };
         old.release(shelf);
     }
 }
