@@ -1,10 +1,11 @@
 -- One column, or the members of one group, made beside others: what they hold.
 use Rattle.std.proofs.Common.{◌≡◌, ℕ, zero, suc, ◌+◌, ◌*◌, ◌^◌, ◌<◌, ◌≤◌, Bool, false, List, [], ◌∷◌, ◌++◌, length, map, take, drop, replicate, refl, ap, sym, ◌∙◌, subst, arith, append-nil}
-use Rattle.std.specs.Prelude.{All, Option, Some, None, Result, Ok, Err, IfOk, OnOk, pos, slice_index_or, slice_get}
+use Rattle.std.specs.Prelude.{All, Option, Some, Result, Ok, Err, IfOk, OnOk, pos, slice_index_or, slice_get}
 use denote.Bor.{Bor}
 use Rattle.sop_tables.specs.declared.changed.Change.{Change}
-use Rattle.sop_tables.specs.declared.changed.Change.TheVariants.{Longer, Picked}
-use Rattle.std.proofs.lemmas.List.{length-map, take_all, get_or-take, drop-drop, drop-append-le}
+use Rattle.sop_tables.specs.declared.changed.Change.TheVariants.{Longer, Picked, Appended, Widened}
+use Rattle.sop_rows.specs.Both.{more_heads, both_sets}
+use Rattle.std.proofs.lemmas.List.{get_or_append_left, length-map, take_all, get_or-take, drop-drop, drop-append-le}
 use Rattle.std.proofs.lemmas.List.Elements.{All-append, All-head, All-tail, All-replicate, All-drop}
 use Rattle.sop_model.specs.declared.geo.Head.{Head}
 use Rattle.sop_model.specs.declared.value.Value.{Value}
@@ -24,7 +25,8 @@ use Rattle.sop_cells.proofs.PlaceLemmas.{held-append}
 use Rattle.sop_columns.proofs.NameLemmas.{grows_none}
 use Rattle.sop_tables.specs.Transposed.{items_at}
 use Rattle.sop_tables.specs.Tables.{TableLists, flat, places_in, held, IsHeld, HasRoomFor, IsColumnOf, AreColumns, AreMembers, IsTable}
-use Rattle.sop_tables.specs.Changes.{head_at, set_after, count_after, values_or, values_after, has_or, flag_after, Fits, IsSource, ArePicks, IsNewColumn, IsNewMembers}
+use Rattle.sop_tables.specs.Changes.{no_head, head_at, set_after, count_after, values_or, values_after, has_or, flag_after, Fits, IsSource, ArePicks, ComesBehind, ComesBeside, IsNewColumn, IsNewMembers}
+use Rattle.sop_tables.proofs.RoomLemmas.{length_placed}
 use Rattle.sop_tables.proofs.FlatLemmas.{held_by}
 use Rattle.sop_tables.proofs.KeptLemmas.{values_kept, column_of_kept, flags_kept}
 use Rattle.sop_tables.proofs.ColumnLemmas.{column_made, column_whole, length-columns}
@@ -75,14 +77,9 @@ column_room s places few room id = let a = room.each id in let b = times_few id 
 pub column_room_as : (s : ShelfPages) (places made : List Place) → made ≡ places → length places ≤ 4096 → HasRoomFor s (2 ^ 20) → (id : ℕ) → count s.own id + times id (own made) < 2 ^ 128
 column_room_as s places made same few room id = let a = column_room s places few room id in let e = ap (λ (ps : List Place). times id (own ps)) same in omega arith
 
-placed_length : (blocks : List (Option Place)) → length (placed blocks) ≤ length blocks
-placed_length [] = omega arith
-placed_length (None ∷ blocks) = let r = placed_length blocks in omega arith
-placed_length (Some place ∷ blocks) = let r = placed_length blocks in omega arith
-
 pub group_room : (s : ShelfPages) (places made : List (Option Place)) → made ≡ places → length places ≤ 32 → HasRoomFor s (2 ^ 20) → (id : ℕ) → count s.own id + times id (own (placed made)) < 2 ^ 128
 group_room s places made same few room id =
-    let a = room.each id in let b = times_few id (placed places) in let c = placed_length places in let e = ap (λ (ps : List (Option Place)). times id (own (placed ps))) same in omega arith
+    let a = room.each id in let b = times_few id (placed places) in let c = length_placed places in let e = ap (λ (ps : List (Option Place)). times id (own (placed ps))) same in omega arith
 
 -- MEMBERS
 
@@ -162,7 +159,7 @@ picks_within s n size d places numbers is picks = λ k e l. let a = picks.within
 pub some_same : {X : Type 0} (x y : X) → Some x ≡ Some y → x ≡ y
 some_same x y e = cc
 
-column_found : (s : ShelfPages) (n : NameTable) (size : ℕ) (heads : List Head) (cs : List (List Place)) (k : ℕ) (p : List Place) → AreColumns s n size heads cs → slice_get cs k ≡ Some p → IsColumnOf s n size (default_of (head_at heads k).kind) p
+pub column_found : (s : ShelfPages) (n : NameTable) (size : ℕ) (heads : List Head) (cs : List (List Place)) (k : ℕ) (p : List Place) → AreColumns s n size heads cs → slice_get cs k ≡ Some p → IsColumnOf s n size (default_of (head_at heads k).kind) p
 column_found s n size [] [] k p all e = absurd cc
 column_found s n size [] (c ∷ cs) k p all e = absurd all
 column_found s n size (h ∷ heads) [] k p all e = absurd all
@@ -255,6 +252,26 @@ module _ (s : ShelfPages) (n : NameTable) (tb : TableLists) (change : Change) (k
         → IfOk r (IsNewColumn s t n m (length numbers.now) h (items_at numbers.now (held s n size p))) → IfOk r (IsNewColumn s t n m (count_after tb.count change) h (values_after s n tb change k h))
     picked_result (Ok new) t m h p size same at made = picked_wanted t m h p new size same at made
     picked_result (Err x) t m h p size same at made = tt
+
+  -- a further table: the first heads are those of before
+  module _ (other : TableLists) where
+    both_head : (h : Head) → h ≡ head_at (both_sets tb.set other.set).heads k → k < length tb.columns → h ≡ head_at tb.set.heads k
+    both_head h at within =
+        let many = length-columns s n tb.count tb.set.heads tb.columns is.table.columns in
+        at ∙ get_or_append_left tb.set.heads (more_heads tb.set other.set) no_head k (omega arith)
+
+  module _ (other : Bor TableLists) where
+    pub appended_head : (h : Head) → change ≡ Appended other → h ≡ head_at (set_after tb.set change).heads k → k < length tb.columns → h ≡ head_at tb.set.heads k
+    appended_head h e at = both_head other.now h (subst (λ (c : Change). h ≡ head_at (set_after tb.set c).heads k) e at)
+
+    pub widened_head : (h : Head) → change ≡ Widened other → h ≡ head_at (set_after tb.set change).heads k → k < length tb.columns → h ≡ head_at tb.set.heads k
+    widened_head h e at = both_head other.now h (subst (λ (c : Change). h ≡ head_at (set_after tb.set c).heads k) e at)
+
+    pub appended_fits : change ≡ Appended other → ComesBehind s n tb other.now
+    appended_fits e = subst (Fits s n tb) e is.fits
+
+    pub widened_fits : change ≡ Widened other → ComesBeside s n tb other.now
+    widened_fits e = subst (Fits s n tb) e is.fits
 
 -- MEMBERS, CHANGE BY CHANGE
 

@@ -15,3 +15,5 @@ pub mod SourceLemmas
 pub mod BesideLemmas
 pub mod ChangedRows
 pub mod SpareCells
+pub mod NamedLemmas
+pub mod JoinedLemmas

@@ -1,9 +1,9 @@
 -- New columns and members that are made one after the other beside the old ones.
 use Rattle.std.proofs.Common.{◌≡◌, ℕ, ◌+◌, ◌*◌, ◌^◌, ◌<◌, ◌≤◌, Bool, List, [], ◌∷◌, ◌++◌, length, map, take, get_or, refl, ap, sym, ◌∙◌, subst, arith, length-append}
-use Rattle.std.specs.Prelude.{All, Option, Some, None, Result, Ok, Err, IfOk, OnErr}
+use Rattle.std.specs.Prelude.{All, Option, Result, Ok, Err, IfOk, OnErr}
 use Rattle.std.proofs.lemmas.Bool.Decides.{nat_tests}
 use Rattle.std.proofs.lemmas.List.{map-append, take_more, take_all, get_or_read}
-use Rattle.std.proofs.lemmas.List.Elements.{All-nil, All-cons, All-append, All-head, All-tail}
+use Rattle.std.proofs.lemmas.List.Elements.{All-nil, All-cons, All-append}
 use Rattle.sop_model.specs.declared.geo.Head.{Head}
 use Rattle.sop_model.specs.declared.geo.HeadSet.{HeadSet}
 use Rattle.sop_model.specs.Geometry.{AreKept, set_bounds}
@@ -23,6 +23,7 @@ use Rattle.sop_tables.specs.Transposed.{tabulated, item, row_of}
 use Rattle.sop_tables.specs.Tables.{TableLists, flat, held, rows, IsTableMade, IsHeld, HasRoomFor, table_room, AreColumns, AreMembers, IsNoStep}
 use Rattle.sop_tables.specs.Changes.{IsNewColumn, AreNewColumns, IsNewMembers, AreNewMembers, rows_wanted}
 use Rattle.sop_tables.proofs.TabulatedLemmas.{tabulated-append, tabulated_same}
+use Rattle.sop_tables.proofs.RoomLemmas.{few_columns, few_members}
 use Rattle.sop_tables.proofs.FlatLemmas.{held_by, flat_last}
 use Rattle.sop_tables.proofs.KeptLemmas.{Beside, columns_kept, held_kept, members_kept, all_flags_kept}
 use Rattle.sop_tables.proofs.ColumnLemmas.{columns_based, columns_last}
@@ -87,22 +88,10 @@ times_few x (Own id ∷ places) = let r = times_few x places in grind (arith, na
 times_few x (Base id ∷ places) = let r = times_few x places in omega arith
 
 columns_few : (x : ℕ) (s : ShelfPages) (n : NameTable) (size : ℕ) → size ≤ most_vertices → (heads : List Head) (cs : List (List Place)) → AreColumns s n size heads cs → held_by x (flat cs) ≤ 4000 * length heads
-columns_few x s n size most [] [] all = omega arith
-columns_few x s n size most [] (c ∷ cs) all = absurd all
-columns_few x s n size most (h ∷ heads) [] all = absurd all
-columns_few x s n size most (h ∷ heads) (c ∷ cs) all =
-    let r = columns_few x s n size most heads cs all.1 in let t = all.0.tight in let a = held-append x c (flat cs) in let b = times_few x c in omega arith
-
-length_placed : (blocks : List (Option Place)) → length (placed blocks) ≤ length blocks
-length_placed [] = omega arith
-length_placed (None ∷ blocks) = let r = length_placed blocks in omega arith
-length_placed (Some place ∷ blocks) = let r = length_placed blocks in omega arith
+columns_few x s n size most heads cs all = let a = few_columns s n size most heads cs all in let b = times_few x (flat cs) in omega arith
 
 members_few : (x : ℕ) (s : ShelfPages) (size : ℕ) (ms : List (List (Option Place))) → All (AreMembers s size) ms → held_by x (flat (map placed ms)) ≤ 32 * length ms
-members_few x s size [] all = omega arith
-members_few x s size (p ∷ ms) all =
-    let r = members_few x s size ms (All-tail (AreMembers s size) p ms all) in let f = (All-head (AreMembers s size) p ms all).few in let l = length_placed p in
-    let a = held-append x (placed p) (flat (map placed ms)) in let b = times_few x (placed p) in omega arith
+members_few x s size ms all = let a = few_members s size ms all in let b = times_few x (flat (map placed ms)) in omega arith
 
 -- COLUMNS
 

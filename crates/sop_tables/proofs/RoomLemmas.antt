@@ -23,19 +23,19 @@ times_length : (x : ℕ) (ids : List ℕ) → times x ids ≤ length ids
 times_length x [] = omega arith
 times_length x (id ∷ ids) = let r = times_length x ids in grind (arith, nat_tests)
 
-length_placed : (blocks : List (Option Place)) → length (placed blocks) ≤ length blocks
+pub length_placed : (blocks : List (Option Place)) → length (placed blocks) ≤ length blocks
 length_placed [] = omega arith
 length_placed (None ∷ blocks) = let r = length_placed blocks in omega arith
 length_placed (Some place ∷ blocks) = let r = length_placed blocks in omega arith
 
-few_columns : (s : ShelfPages) (n : NameTable) (size : ℕ) → size ≤ most_vertices → (heads : List Head) (cs : List (List Place)) → AreColumns s n size heads cs → length (flat cs) ≤ 4000 * length heads
+pub few_columns : (s : ShelfPages) (n : NameTable) (size : ℕ) → size ≤ most_vertices → (heads : List Head) (cs : List (List Place)) → AreColumns s n size heads cs → length (flat cs) ≤ 4000 * length heads
 few_columns s n size most [] [] all = omega arith
 few_columns s n size most [] (c ∷ cs) all = absurd all
 few_columns s n size most (h ∷ heads) [] all = absurd all
 few_columns s n size most (h ∷ heads) (c ∷ cs) all =
     let r = few_columns s n size most heads cs all.1 in let t = all.0.tight in let a = length-append c (flat cs) in omega arith
 
-few_members : (s : ShelfPages) (size : ℕ) (ms : List (List (Option Place))) → All (AreMembers s size) ms → length (flat (map placed ms)) ≤ 32 * length ms
+pub few_members : (s : ShelfPages) (size : ℕ) (ms : List (List (Option Place))) → All (AreMembers s size) ms → length (flat (map placed ms)) ≤ 32 * length ms
 few_members s size [] all = omega arith
 few_members s size (p ∷ ms) all =
     let r = few_members s size ms (All-tail (AreMembers s size) p ms all) in let f = (All-head (AreMembers s size) p ms all).few in let l = length_placed p in

@@ -199,7 +199,7 @@ module _ (n : ℕ) (A B : HeadSet) (columns : List (List Value)) (members : List
       off i (g ∷ gs) = ap (λ r. false ∷ r) (off i gs)
 
 -- a value of a column under a name is the value under that name
-item_fitted : (m i : ℕ) → i < m → (h : Head) (heads : List Head) (columns : List (List Value)) → AreOf m columns → item i (fitted_column m h (column_under heads columns h.name)) ≡ fitted h (value_under heads (map (item i) columns) h.name)
+pub item_fitted : (m i : ℕ) → i < m → (h : Head) (heads : List Head) (columns : List (List Value)) → AreOf m columns → item i (fitted_column m h (column_under heads columns h.name)) ≡ fitted h (value_under heads (map (item i) columns) h.name)
 item_fitted m i l h [] columns all = get_or-replicate m i (default_of h.kind) (value.Int (pos 0)) l
 item_fitted m i l h (k ∷ heads) [] all = get_or-replicate m i (default_of h.kind) (value.Int (pos 0)) l
 item_fitted m i l h (k ∷ heads) (vs ∷ columns) all =
@@ -229,11 +229,11 @@ module _ (m : ℕ) (new old : HeadSet) (columns : List (List Value)) (members : 
   abbrev pub groups_under : List (ℕ → Bool)
   groups_under = map (members_under old.groups members) new.groups
 
-  values_under : (i : ℕ) → i < m → (hs : List Head) → map (item i) (map (λ (h : Head). fitted_column m h (column_under old.heads columns h.name)) hs) ≡ map (λ (h : Head). fitted h (value_under old.heads (map (item i) columns) h.name)) hs
-  values_under i l [] = refl
-  values_under i l (h ∷ hs) =
+  pub values_under_all : (i : ℕ) → i < m → (hs : List Head) → map (item i) (map (λ (h : Head). fitted_column m h (column_under old.heads columns h.name)) hs) ≡ map (λ (h : Head). fitted h (value_under old.heads (map (item i) columns) h.name)) hs
+  values_under_all i l [] = refl
+  values_under_all i l (h ∷ hs) =
       let here = item_fitted m i l h old.heads columns all in
-      let rest = values_under i l hs in
+      let rest = values_under_all i l hs in
       λ j. here j ∷ rest j
 
   flags_under : (i : ℕ) → (gs : List (List ℕ)) → map (λ (has : ℕ → Bool). has i) (map (members_under old.groups members) gs) ≡ map (flag_under old.groups (map (λ (has : ℕ → Bool). has i) members)) gs
@@ -246,7 +246,7 @@ module _ (m : ℕ) (new old : HeadSet) (columns : List (List Value)) (members : 
   pub rows_under : rows_from m columns_under groups_under ≡ map (row_under new old) (rows_from m columns members)
   rows_under =
       tabulated_map (row_under new old) m (row_of columns members) (row_of columns_under groups_under)
-      (λ i l. let here = values_under i l new.heads in let there = flags_under i new.groups in λ j. record { values = here j; flags = there j })
+      (λ i l. let here = values_under_all i l new.heads in let there = flags_under i new.groups in λ j. record { values = here j; flags = there j })
 
 AreOf-filled : (n : ℕ) (ds : List Value) → AreOf n (filled_each n ds)
 AreOf-filled n [] = All-nil (λ vs. length vs ≡ n)
@@ -275,12 +275,3 @@ module _ (n m : ℕ) (A B : HeadSet) (firsts seconds : List (List Value)) (ins o
       ∙ ap (λ r. map (row_widened A B) (rows_from n firsts ins) ++ r)
       (rows_members under (map (members_under B.groups others) (both_sets A B).groups) m (later_members n m members) (λ i l. sym (flags_later n m members i members) ∙ behind i l)
       ∙ rows_under m (both_sets A B) B seconds others of_second)
-
--- the one row of two details
-module _ (A B : HeadSet) (firsts seconds : List (List Value)) (of_second : AreOf 1 seconds) where
-  pub row_both : row_of (firsts ++ map (λ (h : Head). fitted_column 1 h (column_under B.heads seconds h.name)) (more_heads A B)) [] 0
-      ≡ record { values = (row_of firsts [] 0).values ++ map (λ (h : Head). fitted h (value_under B.heads (row_of seconds [] 0).values h.name)) (more_heads A B); flags = [] }
-  row_both =
-      let more = map (λ (h : Head). fitted_column 1 h (column_under B.heads seconds h.name)) (more_heads A B) in
-      let values = map-append (item 0) firsts more ∙ ap (λ r. map (item 0) firsts ++ r) (values_under 1 B B seconds [] of_second 0 (omega arith) (more_heads A B)) in
-      λ j. record { values = values j; flags = [] }

@@ -1,22 +1,22 @@
 -- A table of which a new one is made stays as it is while columns and members come.
 use Rattle.std.proofs.Common.{◌≡◌, ℕ, zero, suc, ◌+◌, ◌<◌, ◌≤◌, Bool, List, [], ◌∷◌, ◌++◌, length, map, take, get_or, replicate, refl, ap, sym, ◌∙◌, subst, arith}
-use Rattle.std.specs.Prelude.{Option, Some, None, slice_get, slice_index_or, unwrap_or}
+use Rattle.std.specs.Prelude.{◌-◌, nat_lt, if◌then◌else◌, All, Option, Some, None, slice_get, slice_index_or, unwrap_or}
 use Rattle.std.proofs.lemmas.List.{length-take, get_or_read}
 use Rattle.sop_model.specs.declared.geo.HeadSet.{HeadSet}
 use Rattle.sop_model.specs.declared.geo.Head.{Head}
 use Rattle.sop_model.specs.declared.value.Value.{Value}
 use Rattle.sop_model.specs.Limits.{most_vertices, most_heads, most_groups}
 use Rattle.sop_model.specs.Values.{default_of}
-use Rattle.sop_model.specs.Geometry.{AreKept, set_bounds}
+use Rattle.sop_model.specs.Geometry.{AreKept, IsRowOf, set_bounds}
 use Rattle.sop_cells.specs.declared.place.Place.{Place}
 use Rattle.sop_cells.specs.Shelves.{ShelfPages, Shifts}
 use Rattle.sop_columns.specs.Names.{NameTable, Grows}
 use Rattle.sop_columns.specs.Bits.{flag, placed}
-use Rattle.sop_tables.specs.Transposed.{items_at}
+use Rattle.sop_tables.specs.Transposed.{items_at, column_under, fitted_column, members_under}
 use Rattle.sop_tables.specs.Tables.{TableLists, flat, places_in, held, rows, IsHeld, IsTable, IsTableMade}
-use Rattle.sop_tables.specs.Changes.{no_head, head_at, group_at, all_flags_after, rows_after, rows_wanted, IsNewMembers, AreNewMembers, set_after, count_after, all_values_after, IsNewColumn, AreNewColumns, values_or, values_after, has_or, first_flag, flag_after, Fits, IsSource}
+use Rattle.sop_tables.specs.Changes.{no_head, head_at, group_at, all_flags_after, rows_after, rows_wanted, IsNewMembers, AreNewMembers, set_after, count_after, all_values_after, IsNewColumn, AreNewColumns, values_or, values_after, values_under, has_or, first_flag, flag_named, flag_after, Fits, IsOther, IsSource}
 use Rattle.sop_tables.specs.declared.changed.Change.{Change}
-use Rattle.sop_tables.specs.declared.changed.Change.TheVariants.{Longer, Picked}
+use Rattle.sop_tables.specs.declared.changed.Change.TheVariants.{Longer, Picked, Appended, Widened}
 use Rattle.sop_columns.proofs.NameLemmas.{grows_none}
 use Rattle.sop_tables.proofs.TabulatedLemmas.{tabulated_same}
 use Rattle.sop_tables.proofs.KeptLemmas.{Beside, held_kept, all_flags_kept, front_beside, back_beside, table_kept, rows_kept}
@@ -65,12 +65,24 @@ module _ (s t : ShelfPages) (n m : NameTable) (come : List Place) (shifts : Shif
     pub first_flag_stays : (k i : ℕ) → first_flag t tb k i ≡ first_flag s tb k i
     first_flag_stays k i = has_or_flag t tb.members k i ∙ ap (λ (fs : List (ℕ → Bool)). has_at (slice_get fs k) i) flags_stay ∙ sym (has_or_flag s tb.members k i)
 
+    -- what stands under a name stays
+    pub values_under_stay : (h : Head) → values_under t m tb h ≡ values_under s n tb h
+    values_under_stay h = ap (λ (vs : List (List Value)). fitted_column tb.count h (column_under tb.set.heads vs h.name)) held_stays
+
+    pub flag_named_stays : (name : List ℕ) (i : ℕ) → flag_named t tb name i ≡ flag_named s tb name i
+    flag_named_stays name i = ap (λ (fs : List (ℕ → Bool)). members_under tb.set.groups fs name i) flags_stay
+
+  pub other_stays : (tb : TableLists) → IsOther s n tb → IsOther t m tb
+  other_stays tb o = record { table = table_stays tb o.table o.held; held = table_held_still tb o.table o.held; kinds = subst (All (IsRowOf tb.set)) (sym (rows_stay tb o.table o.held)) o.kinds }
+
   -- THE SOURCE
 
   module _ (tb : TableLists) where
     fits_still : (change : Change) → Fits s n tb change → Fits t m tb change
     fits_still (Longer more) f = f
     fits_still (Picked numbers) f = f
+    fits_still (Appended other) f = record { other = other_stays other.now f.other; few = f.few; most = f.most }
+    fits_still (Widened other) f = record { other = other_stays other.now f.other; few = f.few; one = f.one; other_one = f.other_one; no_groups = f.no_groups; no_other_groups = f.no_other_groups }
 
     pub source_stays : (change : Change) → IsSource s n tb change → IsSource t m tb change
     source_stays change is = record { table = table_stays tb is.table is.held; held = table_held_still tb is.table is.held; fits = fits_still change is.fits }
@@ -78,6 +90,10 @@ module _ (s t : ShelfPages) (n m : NameTable) (come : List Place) (shifts : Shif
     values_stay_by : (change : Change) (k : ℕ) (h : Head) → IsTable s n tb → IsHeld s (places_in tb) → Fits s n tb change → values_after t m tb change k h ≡ values_after s n tb change k h
     values_stay_by (Longer more) k h is hd f = ap (λ (vs : List Value). vs ++ replicate more (default_of h.kind)) (values_or_stay tb is hd (replicate tb.count (default_of h.kind)) k)
     values_stay_by (Picked numbers) k h is hd f = ap (items_at numbers.now) (values_or_stay tb is hd (replicate tb.count (default_of h.kind)) k)
+    values_stay_by (Appended other) k h is hd f =
+        let a = values_or_stay tb is hd (replicate tb.count (default_of h.kind)) k in let b = values_under_stay other.now f.other.table f.other.held h in λ j. a j ++ b j
+    values_stay_by (Widened other) k h is hd f =
+        ap (λ (vs : List Value). values_or t m tb.count vs (slice_get tb.columns k)) (values_under_stay other.now f.other.table f.other.held h) ∙ values_or_stay tb is hd (values_under s n other.now h) k
 
     pub values_stay : (change : Change) (k : ℕ) (h : Head) → IsSource s n tb change → values_after t m tb change k h ≡ values_after s n tb change k h
     values_stay change k h is = values_stay_by change k h is.table is.held is.fits
@@ -85,6 +101,9 @@ module _ (s t : ShelfPages) (n m : NameTable) (come : List Place) (shifts : Shif
     flag_stays_by : (change : Change) (k : ℕ) (name : List ℕ) (i : ℕ) → IsTable s n tb → IsHeld s (places_in tb) → Fits s n tb change → flag_after t tb change k name i ≡ flag_after s tb change k name i
     flag_stays_by (Longer more) k name i is hd f = first_flag_stays tb is hd k i
     flag_stays_by (Picked numbers) k name i is hd f = first_flag_stays tb is hd k (slice_index_or numbers.now i 0)
+    flag_stays_by (Appended other) k name i is hd f =
+        let a = first_flag_stays tb is hd k i in let b = flag_named_stays other.now f.other.table f.other.held name (i - tb.count) in λ j. if nat_lt i tb.count then a j else b j
+    flag_stays_by (Widened other) k name i is hd f = first_flag_stays tb is hd k i
 
     pub flag_stays : (change : Change) (k : ℕ) (name : List ℕ) (i : ℕ) → IsSource s n tb change → flag_after t tb change k name i ≡ flag_after s tb change k name i
     flag_stays change k name i is = flag_stays_by change k name i is.table is.held is.fits
@@ -98,6 +117,8 @@ module _ (s : ShelfPages) (n : NameTable) (tb : TableLists) where
   most_by : (change : Change) → tb.count ≤ most_vertices → Fits s n tb change → count_after tb.count change ≤ most_vertices
   most_by (Longer more) m f = f
   most_by (Picked numbers) m f = f.few
+  most_by (Appended other) m f = f.most
+  most_by (Widened other) m f = m
 
   pub after_most : (change : Change) → IsSource s n tb change → count_after tb.count change ≤ most_vertices
   after_most change is = most_by change is.table.most is.fits
@@ -105,6 +126,8 @@ module _ (s : ShelfPages) (n : NameTable) (tb : TableLists) where
   few_by : (change : Change) → AreKept (set_bounds tb.set) → Fits s n tb change → AreKept (set_bounds (set_after tb.set change))
   few_by (Longer more) k f = k
   few_by (Picked numbers) k f = k
+  few_by (Appended other) k f = f.few
+  few_by (Widened other) k f = f.few
 
   pub after_few : (change : Change) → IsSource s n tb change → AreKept (set_bounds (set_after tb.set change))
   after_few change is = few_by change is.table.few is.fits

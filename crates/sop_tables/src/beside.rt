@@ -1,8 +1,9 @@
 //! One column, or the members of one group, made beside others.
-ghost use Rattle.std.specs.Prelude.{◌≡◌, ℕ, ◌+◌, ◌^◌, ◌<◌, ◌≤◌, [], ◌++◌, length, replicate, slice_index_or, All, IfOk, OnOk, OnErr};
+ghost use Rattle.std.specs.Prelude.{◌≡◌, ℕ, ◌+◌, ◌^◌, ◌<◌, ◌≤◌, [], ◌++◌, length, map, replicate, slice_index_or, All, IfOk, OnOk, OnErr};
 ghost use Rattle.sop_model.specs.Limits.{most_vertices};
-ghost use Rattle.sop_model.specs.Values.{default_of};
+ghost use Rattle.sop_model.specs.Values.{kind_of, default_of};
 ghost use Rattle.sop_cells.specs.Shelves.{Shifts};
+ghost use Rattle.sop_columns.specs.Fitted.{fitted_to};
 ghost use Rattle.sop_columns.specs.Bits.{flag, placed, AreBits};
 ghost use Rattle.sop_tables.specs.Transposed.{items_at};
 ghost use Rattle.sop_tables.specs.Tables.{held, IsHeld, HasRoomFor, IsColumnOf, IsNoStep};
@@ -10,8 +11,8 @@ ghost use Rattle.sop_tables.specs.Changes.{ArePicks, IsNewColumn, IsNewMembers};
 
 use sop_cells::Shelf;
 use sop_columns::{BitColumn, Column, Names};
-use sop_model::Head;
-use std::alloc::AllocError;
+use sop_model::{Head, Kind};
+use std::alloc::{AllocError, Global};
 
 /// A column that holds the same pages.
 pub(crate) fn shared_column(column: &Column, shelf: &mut Shelf<'_>) -> Result<Column, AllocError>
@@ -70,6 +71,67 @@ pub(crate) fn picked_column(
     ensures err { OnErr result (shelf.new ≡ shelf.old) }
 {
     column.picked(shelf, numbers)
+}
+
+/// A column of `count` defaults of the head.
+pub(crate) fn fresh_column(
+    alloc: Global,
+    head: &Head,
+    count: u32,
+    shelf: &mut Shelf<'_>,
+    names: &mut Names,
+) -> Result<Column, AllocError>
+    ensures made { IfOk result (IsNewColumn shelf.old shelf.new names.old names.new count head.now (replicate count (default_of head.now.kind))) }
+    ensures err { OnErr result (IsNoStep shelf.old shelf.new names.old names.new) }
+{
+    Column::new(alloc, head.kind, count, shelf, names)
+}
+
+/// A column of the first `count` values, which are of the kind `own`, put under another head.
+pub(crate) fn fitted_column(
+    column: &Column,
+    own: Kind,
+    head: &Head,
+    count: u32,
+    shelf: &mut Shelf<'_>,
+    names: &mut Names,
+) -> Result<Column, AllocError>
+    requires column { IsColumnOf shelf.old names.old count (default_of own) column.now }
+    requires held { IsHeld shelf.old column.now }
+    requires kinds { All (λ v. kind_of v ≡ own) (held shelf.old names.old count column.now) }
+    requires room { HasRoomFor shelf.old (2 ^ 20) }
+    requires most { count ≤ most_vertices }
+    ensures made { IfOk result (IsNewColumn shelf.old shelf.new names.old names.new count head.now (map (fitted_to head.now.kind) (held shelf.old names.old count column.now))) }
+    ensures err { OnErr result (IsNoStep shelf.old shelf.new names.old names.new) }
+{
+    if own == head.kind {
+        longer_column(column, head, count, 0, shelf, names)
+    } else {
+        column.converted(head.kind, count, shelf, names)
+    }
+}
+
+/// A column of the first `len` values of one column and then the first `more` of another one, both of the head's kind. It shares
+/// what whole pages it can with both.
+pub(crate) fn joined_column(
+    first: &Column,
+    head: &Head,
+    len: u32,
+    second: &Column,
+    more: u32,
+    shelf: &mut Shelf<'_>,
+    names: &Names,
+) -> Result<Column, AllocError>
+    requires first { IsColumnOf shelf.old names.now len (default_of head.now.kind) first.now }
+    requires first_held { IsHeld shelf.old first.now }
+    requires second { IsColumnOf shelf.old names.now more (default_of head.now.kind) second.now }
+    requires second_held { IsHeld shelf.old second.now }
+    requires room { HasRoomFor shelf.old (2 ^ 20) }
+    requires most { len + more ≤ most_vertices }
+    ensures made { IfOk result (IsNewColumn shelf.old shelf.new names.now names.now (len + more) head.now (held shelf.old names.now len first.now ++ held shelf.old names.now more second.now)) }
+    ensures err { OnErr result (shelf.new ≡ shelf.old) }
+{
+    first.appended(len, shelf, second, more)
 }
 
 /// Members that hold the same pages.

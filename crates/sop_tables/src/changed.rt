@@ -6,10 +6,10 @@ ghost use Rattle.sop_model.specs.Rows.{default_row, picked};
 ghost use Rattle.sop_cells.specs.Shelves.{Shifts};
 ghost use Rattle.sop_columns.specs.Names.{Grows};
 ghost use Rattle.sop_tables.specs.Tables.{TableLists, rows, places_in, IsTable, IsHeld, HasRoomFor, table_room, IsTableMade, IsNoStep};
-ghost use Rattle.sop_tables.specs.Changes.{IsSource, set_after, count_after, values_after, all_values_after, head_at, group_at, flag_after, all_flags_after, rows_after, IsNewColumn, AreNewColumns, IsNewMembers, AreNewMembers};
+ghost use Rattle.sop_tables.specs.Changes.{IsSource, set_after, count_after, values_after, all_values_after, head_at, group_at, flag_after, all_flags_after, rows_after, rows_changed, IsNewColumn, AreNewColumns, IsNewMembers, AreNewMembers};
 
 use crate::table::Table;
-use crate::{beside, lots};
+use crate::{beside, lots, sets};
 use sop_cells::Shelf;
 use sop_columns::{BitColumn, Column, Names};
 use sop_model::copies::Copied;
@@ -24,6 +24,11 @@ pub enum Change<'a> {
     Longer(u32),
     /// Those with these numbers, in this order.
     Picked(&'a [u32]),
+    /// All of them, and behind them those of another table. The attributes and groups of both are there: each value is put
+    /// under the head of its name, and where an element has none it has the default, and is in no group.
+    Appended(&'a Table),
+    /// All of them, with the values of another table under its further attributes. Both have one element and no group.
+    Widened(&'a Table),
 }
 
 impl Table {
@@ -53,6 +58,9 @@ impl Table {
     {
         match change {
             Change::Longer(_) | Change::Picked(_) => self.set.copy(self.alloc),
+            Change::Appended(other) | Change::Widened(other) => {
+                sets::both(self.alloc, &self.set, &other.set)
+            }
         }
     }
 
@@ -107,6 +115,8 @@ impl Table {
             Change::Picked(numbers) => {
                 beside::picked_column(self.column(k), head, self.count(), numbers, shelf, names)
             }
+            Change::Appended(other) => self.appended_column(k, head, other, shelf, names),
+            Change::Widened(other) => self.widened_column(k, head, other, shelf, names),
         }
     }
 
@@ -157,6 +167,8 @@ impl Table {
         match change {
             Change::Longer(_) => beside::shared_members(self.group(k), shelf),
             Change::Picked(numbers) => beside::picked_members(self.group(k), numbers, shelf),
+            Change::Appended(other) => self.appended_members(k, group, other, shelf, names),
+            Change::Widened(_) => Ok(BitColumn::empty(self.alloc)),
         }
     }
 
@@ -184,6 +196,8 @@ impl Table {
         match change {
             Change::Longer(more) => self.count + more,
             Change::Picked(numbers) => numbers.len() as u32,
+            Change::Appended(other) => self.count + other.count,
+            Change::Widened(_) => self.count,
         }
     }
 

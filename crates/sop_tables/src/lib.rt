@@ -6,7 +6,9 @@ mod cells;
 mod changed;
 mod fresh;
 mod heads;
+mod joined;
 mod lots;
+mod sets;
 mod spare;
 mod table;
 

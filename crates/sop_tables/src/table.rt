@@ -1,6 +1,8 @@
 //! The table of a class: what it holds, its reads, and copies that hold the same pages.
-ghost use Rattle.std.specs.Prelude.{◌≡◌, [], ◌<◌, ◌≤◌, length, Some, slice_get, IfOk, OnOk, OnErr};
+ghost use Rattle.std.specs.Prelude.{◌≡◌, [], ◌<◌, ◌≤◌, length, position, Some, None, slice_get, IfOk, OnOk, OnErr};
 ghost use Rattle.std.specs.Option.{option_and_then};
+ghost use Rattle.std.specs.Str.{bytes_eq};
+ghost use Rattle.sop_model.specs.Limits.{most_heads, most_groups};
 ghost use Rattle.sop_pages.specs.Pages.{live_pages};
 ghost use Rattle.sop_cells.specs.Shelves.{Shifts};
 ghost use Rattle.sop_model.specs.Values.{value_seen};
@@ -54,6 +56,36 @@ impl Table {
         ensures { result ≡ self.now.count }
     {
         self.count
+    }
+
+    /// The number of the attribute of this name; `None` exactly where there is none.
+    pub fn find(&self, name: &str) -> Option<u32>
+        requires { length self.now.set.heads ≤ most_heads }
+        ensures { result ≡ position (λ h. bytes_eq h.name name.now) self.now.set.heads }
+    {
+        match self
+            .heads()
+            .iter()
+            .position(|head| head.name.as_str() == name)
+        {
+            Some(place) => Some(place as u32),
+            None => None,
+        }
+    }
+
+    /// The number of the group of this name; `None` exactly where there is none.
+    pub fn find_group(&self, name: &str) -> Option<u32>
+        requires { length self.now.set.groups ≤ most_groups }
+        ensures { result ≡ position (λ g. bytes_eq g name.now) self.now.set.groups }
+    {
+        match self
+            .groups()
+            .iter()
+            .position(|group| group.as_str() == name)
+        {
+            Some(place) => Some(place as u32),
+            None => None,
+        }
     }
 
     /// The value of an element under the attribute with the number `head`, both from 0. It takes no memory.

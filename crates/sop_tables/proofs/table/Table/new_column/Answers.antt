@@ -1,6 +1,6 @@
 use Rattle.std.proofs.lemmas.Result.{on_err_weaker}
 use Rattle.sop_tables.proofs.MadeLemmas.{no_step}
-use Rattle.sop_tables.proofs.BesideLemmas.{table_column, table_column_held, longer_fits, longer_number, longer_head, longer_result, picked_fits, picked_number, picked_head, picked_result}
+use Rattle.sop_tables.proofs.BesideLemmas.{table_column, table_column_held, longer_fits, longer_number, longer_head, longer_result, picked_fits, picked_number, picked_head, picked_result, appended_head, widened_head}
 use Rattle.sop_columns.proofs.NameLemmas.{grows_none}
 use Rattle.sop_tables.proofs.table.Table.new_column.Goals as goal
 
@@ -40,3 +40,9 @@ returns-in-Picked-clause-err c = on_err_weaker _ (λ e. no_step _ _ _ _ e (grows
 pub returns-in-Picked-clause-made : goal.returns-in-Picked-clause-made
 returns-in-Picked-clause-made c =
     picked_result c.args.shelf.now c.args.names.now c.args.self.now c.args.change c.args.k c.requires.source c.in-Picked.numbers c.in-Picked.is c.picked_column.result c.picked_column.new.shelf c.args.names.now c.args.head.now c.column-in-Picked.result.now c.count-in-Picked.result c.count-in-Picked.ensures c.column-in-Picked.ensures c.picked_column.ensures.made
+
+pub appended_column-requires-clause-head : goal.appended_column-requires-clause-head
+appended_column-requires-clause-head c = appended_head _ _ _ _ c.args.k c.requires.source c.in-Appended.other c.args.head.now c.in-Appended.is c.requires.head
+
+pub widened_column-requires-clause-head : goal.widened_column-requires-clause-head
+widened_column-requires-clause-head c = widened_head _ _ _ _ c.args.k c.requires.source c.in-Widened.other c.args.head.now c.in-Widened.is c.requires.head
