@@ -1,5 +1,5 @@
 //! A geometry as columns: what it holds, and copies that hold the same pages.
-ghost use Rattle.std.specs.Prelude.{◌≡◌, ◌≤◌, [], length, position, Some, None, IfOk, OnOk, OnErr};
+ghost use Rattle.std.specs.Prelude.{◌≡◌, ◌≤◌, [], length, position, IfOk, OnOk, OnErr};
 ghost use Rattle.std.specs.Str.{bytes_eq};
 ghost use Rattle.sop_model.specs.Limits.{most_heads, most_groups};
 ghost use Rattle.sop_pages.specs.Pages.{live_pages};
@@ -9,8 +9,7 @@ ghost use Rattle.sop_sheets.specs.Sheets.{table_of, places_of};
 
 use crate::topology::Topology;
 use sop_cells::Shelf;
-use sop_model::{Class, Head};
-use sop_outside::Text;
+use sop_model::Class;
 use sop_shape::Shape;
 use sop_tables::Table;
 use std::alloc::AllocError;
@@ -81,7 +80,7 @@ impl Sheet {
         requires { length (table_of self.now class).set.heads ≤ most_heads }
         ensures { result ≡ position (λ h. bytes_eq h.name name.now) (table_of self.now class).set.heads }
     {
-        head_place(self.table(class).heads(), name)
+        self.table(class).find(name)
     }
 
     /// The number of the group of this name; `None` exactly where there is none.
@@ -89,7 +88,7 @@ impl Sheet {
         requires { length (table_of self.now class).set.groups ≤ most_groups }
         ensures { result ≡ position (λ g. bytes_eq g name.now) (table_of self.now class).set.groups }
     {
-        group_place(self.table(class).groups(), name)
+        self.table(class).find_group(name)
     }
 
     /// An equal sheet. The shelf doesn't count its places before `hold`; `Err` for want of memory.
@@ -128,27 +127,5 @@ impl Sheet {
         self.prim.release(shelf);
         self.point.release(shelf);
         self.vertex.release(shelf);
-    }
-}
-
-/// The place of the attribute of this name.
-fn head_place(heads: &[Head], name: &str) -> Option<u32>
-    requires { length heads.now ≤ most_heads }
-    ensures { result ≡ position (λ h. bytes_eq h.name name.now) heads.now }
-{
-    match heads.iter().position(|head| head.name.as_str() == name) {
-        Some(place) => Some(place as u32),
-        None => None,
-    }
-}
-
-/// The place of the group of this name.
-fn group_place(groups: &[Text], name: &str) -> Option<u32>
-    requires { length groups.now ≤ most_groups }
-    ensures { result ≡ position (λ g. bytes_eq g name.now) groups.now }
-{
-    match groups.iter().position(|group| group.as_str() == name) {
-        Some(place) => Some(place as u32),
-        None => None,
     }
 }

@@ -1,5 +1,8 @@
 //! The shape of a geometry, held by all geometries that have it.
-ghost use Rattle.std.specs.Prelude.{◌≡◌, ◌+◌, ◌<◌, ◌≤◌, length, IfOk, OnOk, OnErr};
+ghost use Rattle.std.specs.Prelude.{◌≡◌, ◌+◌, ◌^◌, ◌<◌, ◌≤◌, length, All, IfOk, OnOk, OnErr};
+ghost use Rattle.sop_model.specs.declared.class.Class.TheVariants.{Point};
+ghost use Rattle.sop_model.specs.Appending.{appended};
+ghost use Rattle.sop_model.specs.Geometry.{count_of, IsSound};
 ghost use Rattle.sop_model.specs.declared.geo.Geo.{Geo};
 ghost use Rattle.sop_model.specs.Limits.{most_prims, most_vertices};
 ghost use Rattle.sop_model.specs.Rows.{prim_added};
@@ -59,5 +62,19 @@ impl Topology {
     {
         let shape = Arc::make_mut(&mut self.shape)?;
         shape.add_prim(closed, points)
+    }
+
+    /// Puts another shape behind, as `Shape::append` does, whose points stand behind so many. The shape is copied before where it has other
+    /// holders.
+    pub fn append(&mut self, other: &Topology, points: u32) -> Result<(), AllocError>
+        requires prims { length self.old.closed + length other.now.closed ≤ most_prims }
+        requires vertices { length self.old.refers + length other.now.refers ≤ most_vertices }
+        requires points { All (λ n. points + n < 2 ^ 32) other.now.refers }
+        ensures ok { OnOk result ((a b : Geo) → IsSound a → IsSound b → HasShape a self.old → HasShape b other.now
+            → count_of a Point ≡ points → HasShape (appended a b) self.new) }
+        ensures err { OnErr result (self.new ≡ self.old) }
+    {
+        let shape = Arc::make_mut(&mut self.shape)?;
+        shape.append(other.shape(), points)
     }
 }

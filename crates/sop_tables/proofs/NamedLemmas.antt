@@ -1,10 +1,11 @@
 -- What stands under a name, by the number of the head or group that has it.
-use Rattle.std.proofs.Common.{◌≡◌, ℕ, zero, suc, ◌+◌, ◌<◌, Bool, true, false, List, [], ◌∷◌, ◌++◌, length, map, take, get_or, replicate, cond, append-nil, refl, ap, sym, ◌∙◌, subst, arith}
-use Rattle.std.specs.Prelude.{All, Option, Some, None, pos, position, filter, slice_get, unwrap_or, if◌then◌else◌}
+use Rattle.std.proofs.Common.{◌≡◌, ℕ, zero, suc, ◌+◌, ◌<◌, ◌≤◌, Bool, true, false, List, [], ◌∷◌, ◌++◌, length, map, take, get_or, replicate, cond, append-nil, refl, ap, sym, ◌∙◌, subst, arith}
+use Rattle.std.specs.Prelude.{nat_le, IsTrue, All, Option, Some, None, pos, position, filter, slice_get, unwrap_or, if◌then◌else◌}
 use Rattle.std.specs.Option.{option_map, option_and_then}
 use Rattle.std.specs.List.{list_any}
 use Rattle.std.specs.Str.{bytes_eq}
 use Rattle.std.proofs.lemmas.Bool.{or_parts}
+use Rattle.std.proofs.lemmas.Bool.Decides.{nat_tests}
 use Rattle.std.proofs.lemmas.Option.{slice_get-map, slice_get-get_or}
 use Rattle.std.proofs.lemmas.List.{length-map}
 use Rattle.std.proofs.lemmas.List.Quantifiers.{position-Some}
@@ -160,3 +161,11 @@ filter_next p xs k x within at passes = ap (filter p) (first_more xs k x within 
 
 pub filter_skipped : {X : Type 0} (p : X → Bool) (xs : List X) (k : ℕ) (x : X) → k < length xs → x ≡ get_or xs k x → p x ≡ false → filter p (take (k + 1) xs) ≡ filter p (take k xs)
 filter_skipped p xs k x within at fails = ap (filter p) (first_more xs k x within at) ∙ filter-append p (take k xs) (x ∷ []) ∙ ap (λ (b : Bool). filter p (take k xs) ++ cond b (x ∷ []) []) fails ∙ append-nil (filter p (take k xs))
+
+-- NUMBERS COMPARED
+
+pub le_true : (x m : ℕ) → x ≤ m → IsTrue (nat_le x m)
+le_true x m l = grind (arith, nat_tests)
+
+pub true_le : (x m : ℕ) → IsTrue (nat_le x m) → x ≤ m
+true_le x m t = grind (arith, nat_tests, t)

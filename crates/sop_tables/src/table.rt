@@ -1,14 +1,16 @@
 //! The table of a class: what it holds, its reads, and copies that hold the same pages.
-ghost use Rattle.std.specs.Prelude.{◌≡◌, [], ◌<◌, ◌≤◌, length, position, Some, None, slice_get, IfOk, OnOk, OnErr};
+ghost use Rattle.std.specs.Prelude.{◌≡◌, ◌↔◌, [], ◌<◌, ◌≤◌, length, position, Some, None, slice_get, IsTrue, IfOk, OnOk, OnErr};
 ghost use Rattle.std.specs.Option.{option_and_then};
 ghost use Rattle.std.specs.Str.{bytes_eq};
 ghost use Rattle.sop_model.specs.Limits.{most_heads, most_groups};
 ghost use Rattle.sop_pages.specs.Pages.{live_pages};
 ghost use Rattle.sop_cells.specs.Shelves.{Shifts};
 ghost use Rattle.sop_model.specs.Values.{value_seen};
+ghost use Rattle.sop_model.specs.Geometry.{AreKept, set_bounds};
+ghost use Rattle.sop_rows.specs.Both.{both_sets};
 ghost use Rattle.sop_tables.specs.Tables.{rows, places_in, IsTable, IsHeld, HasRoom};
 
-use crate::lots;
+use crate::{lots, sets};
 use sop_cells::Shelf;
 use sop_columns::{BitColumn, Column, Names};
 use sop_model::copies::Copied;
@@ -86,6 +88,15 @@ impl Table {
             Some(place) => Some(place as u32),
             None => None,
         }
+    }
+
+    /// Whether a class may have the attributes and groups of both tables. It takes no memory.
+    pub fn sets_fit(&self, other: &Table) -> bool
+        requires own { AreKept (set_bounds self.now.set) }
+        requires other { AreKept (set_bounds other.now.set) }
+        ensures { IsTrue result ↔ AreKept (set_bounds (both_sets self.now.set other.now.set)) }
+    {
+        sets::both_fit(&self.set, &other.set)
     }
 
     /// The value of an element under the attribute with the number `head`, both from 0. It takes no memory.
