@@ -1,3 +1,4 @@
 pub mod Primitives
 pub mod Sheets
 pub mod Remade
+pub mod Together

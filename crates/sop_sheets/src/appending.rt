@@ -1,14 +1,17 @@
 //! One geometry behind another.
-ghost use Rattle.std.specs.Prelude.{◌≡◌, OnOk, OnErr};
+ghost use Rattle.std.specs.Prelude.{◌≡◌, ◌↔◌, IsTrue, OnOk, OnErr};
 ghost use Rattle.sop_model.specs.Geometry.{IsWithin};
 ghost use Rattle.sop_model.specs.Appending.{appended};
 ghost use Rattle.sop_tables.specs.Tables.{IsHeld, HasRoomFor};
+ghost use Rattle.sop_sheets.specs.Together.{CountsFit, SetFits, SetsFit, SetsKept};
 ghost use Rattle.sop_sheets.specs.Sheets.{places_of, geo_of, sheet_room, IsSheet, Becomes, Stays};
 
 use crate::remade::Changes;
 use crate::sheet::Sheet;
 use sop_cells::Shelf;
 use sop_columns::Names;
+use sop_model::Class;
+use sop_model::limits::{MOST_POINTS, MOST_PRIMS, MOST_VERTICES};
 use sop_tables::Change;
 use std::alloc::AllocError;
 
@@ -44,5 +47,52 @@ impl Sheet {
         }
         self.replace(made, shelf);
         Ok(())
+    }
+
+    /// Whether this geometry with another one behind it is within the limits of elements, attributes and groups. It takes no memory.
+    pub fn takes(&self, other: &Sheet, shelf: &Shelf<'_>, names: &Names) -> bool
+        requires sheet { IsSheet shelf.now names.now self.now }
+        requires other { IsSheet shelf.now names.now other.now }
+        ensures { IsTrue result ↔ IsWithin (appended (geo_of shelf.now names.now self.now) (geo_of shelf.now names.now other.now)) }
+    {
+        self.counts_fit(other) && self.sets_fit(other)
+    }
+
+    // Whether there may be as many elements as both have.
+    fn counts_fit(&self, other: &Sheet) -> bool
+        ensures { IsTrue result ↔ CountsFit self.now other.now }
+    {
+        let points = self.point.count() as usize + other.point.count() as usize;
+        let prims = self.prim.count() as usize + other.prim.count() as usize;
+        let vertices = self.vertex.count() as usize + other.vertex.count() as usize;
+        points <= MOST_POINTS && prims <= MOST_PRIMS && vertices <= MOST_VERTICES
+    }
+
+    // Whether each class may have the attributes and groups of both.
+    fn sets_fit(&self, other: &Sheet) -> bool
+        requires own { SetsKept self.now }
+        requires other { SetsKept other.now }
+        ensures { IsTrue result ↔ SetsFit self.now other.now }
+    {
+        self.two_fit(other, Class::Detail, Class::Prim)
+            && self.two_fit(other, Class::Point, Class::Vertex)
+    }
+
+    // Whether each of two classes may.
+    fn two_fit(&self, other: &Sheet, class: Class, next: Class) -> bool
+        requires own { SetsKept self.now }
+        requires other { SetsKept other.now }
+        ensures { IsTrue result ↔ SetFits self.now other.now class × SetFits self.now other.now next }
+    {
+        self.set_fits(other, class) && self.set_fits(other, next)
+    }
+
+    // Whether a class may.
+    fn set_fits(&self, other: &Sheet, class: Class) -> bool
+        requires own { SetsKept self.now }
+        requires other { SetsKept other.now }
+        ensures { IsTrue result ↔ SetFits self.now other.now class }
+    {
+        self.table(class).sets_fit(other.table(class))
     }
 }
