@@ -5,3 +5,4 @@ pub mod ViewLemmas
 pub mod CallLemmas
 pub mod MadeLemmas
 pub mod GrowLemmas
+pub mod RemadeLemmas

@@ -1,13 +1,12 @@
 //! A geometry made beside another, class by class, and put in its place.
-ghost use Rattle.std.specs.Prelude.{◌≡◌, ◌≤◌, [], IfOk, OnErr};
-ghost use Rattle.sop_shape.specs.Shapes.{ShapeLists};
+ghost use Rattle.std.specs.Prelude.{◌≡◌, ◌^◌, ◌≤◌, [], IfOk, OnErr};
 ghost use Rattle.sop_model.specs.declared.class.Class.{Class};
 ghost use Rattle.sop_pages.specs.Pages.{live_pages};
 ghost use Rattle.sop_cells.specs.Shelves.{Shifts};
 ghost use Rattle.sop_tables.specs.Tables.{IsHeld, HasRoomFor, IsNoStep};
 ghost use Rattle.sop_tables.specs.Changes.{IsSource};
 ghost use Rattle.sop_sheets.specs.Sheets.{table_of, places_of, sheet_room};
-ghost use Rattle.sop_sheets.specs.Remade.{change_of, sheet_of, IsRemade};
+ghost use Rattle.sop_sheets.specs.Remade.{change_of, places_made, sheet_of, AreChanged, IsRemade};
 
 use crate::sheet::Sheet;
 use sop_cells::Shelf;
@@ -37,8 +36,8 @@ pub(crate) struct Tables {
 impl Tables {
     /// Lets all their pages go. It takes no memory.
     pub(crate) fn release(self, shelf: &mut Shelf<'_>)
-        requires held { (shape : ShapeLists) → IsHeld shelf.old (places_of (sheet_of self shape)) }
-        ensures shifts { (shape : ShapeLists) → Shifts shelf.old shelf.new (places_of (sheet_of self shape)) [] }
+        requires held { IsHeld shelf.old (places_made self) }
+        ensures shifts { Shifts shelf.old shelf.new (places_made self) [] }
         ensures pages { live_pages shelf.new.own ≤ live_pages shelf.old.own }
     {
         self.detail.release(shelf);
@@ -62,37 +61,38 @@ impl Sheet {
         ensures made { IfOk result (λ made. IsRemade shelf.old shelf.new names.old names.new self.now changes.entry (sheet_of made self.now.shape)) }
         ensures err { OnErr result (IsNoStep shelf.old shelf.new names.old names.new) }
     {
-        let detail = self.detail.changed(changes.detail, shelf, names)?;
-        let prim = match self.prim.changed(changes.prim, shelf, names) {
-            Ok(prim) => prim,
-            Err(error) => {
-                detail.release(shelf);
-                return Err(error);
+        let front = both(
+            &self.detail,
+            changes.detail,
+            &self.prim,
+            changes.prim,
+            shelf,
+            names,
+        )?;
+        let (detail, prim) = front;
+        match both(
+            &self.point,
+            changes.point,
+            &self.vertex,
+            changes.vertex,
+            shelf,
+            names,
+        ) {
+            Ok(back) => {
+                let (point, vertex) = back;
+                Ok(Tables {
+                    detail,
+                    prim,
+                    point,
+                    vertex,
+                })
             }
-        };
-        let point = match self.point.changed(changes.point, shelf, names) {
-            Ok(point) => point,
             Err(error) => {
                 detail.release(shelf);
                 prim.release(shelf);
-                return Err(error);
+                Err(error)
             }
-        };
-        let vertex = match self.vertex.changed(changes.vertex, shelf, names) {
-            Ok(vertex) => vertex,
-            Err(error) => {
-                detail.release(shelf);
-                prim.release(shelf);
-                point.release(shelf);
-                return Err(error);
-            }
-        };
-        Ok(Tables {
-            detail,
-            prim,
-            point,
-            vertex,
-        })
+        }
     }
 
     /// Puts tables that were made beside this sheet's in their place, and lets the pages of these go. It takes no memory.
@@ -108,5 +108,30 @@ impl Sheet {
             vertex: mem::replace(&mut self.vertex, made.vertex),
         };
         old.release(shelf);
+    }
+}
+
+/// A table of the elements of `first` and one of those of `second`, beside both. `Err` for want of memory: then only names may have come.
+fn both(
+    first: &Table,
+    change: Change<'_>,
+    second: &Table,
+    other: Change<'_>,
+    shelf: &mut Shelf<'_>,
+    names: &mut Names,
+) -> Result<(Table, Table), AllocError>
+    requires first { IsSource shelf.old names.old first.now change }
+    requires second { IsSource shelf.old names.old second.now other }
+    requires room { HasRoomFor shelf.old (2 ^ 36) }
+    ensures made { IfOk result (λ made. AreChanged shelf.old shelf.new names.old names.new first.now change.entry second.now other.entry made.0 made.1) }
+    ensures err { OnErr result (IsNoStep shelf.old shelf.new names.old names.new) }
+{
+    let made = first.changed(change, shelf, names)?;
+    match second.changed(other, shelf, names) {
+        Ok(next) => Ok((made, next)),
+        Err(error) => {
+            made.release(shelf);
+            Err(error)
+        }
     }
 }
