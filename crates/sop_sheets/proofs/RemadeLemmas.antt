@@ -1,5 +1,5 @@
 -- Tables made one after the other beside those of a sheet, let go again for want of memory, or put in their place.
-use Rattle.std.proofs.Common.{◌≡◌, ℕ, ◌^◌, ◌≤◌, List, [], ◌∷◌, ◌++◌, map, replicate, ap, ◌∙◌, arith}
+use Rattle.std.proofs.Common.{◌≡◌, ℕ, ◌+◌, ◌^◌, ◌≤◌, List, [], ◌∷◌, ◌++◌, map, replicate, ap, ◌∙◌, arith}
 use Rattle.std.proofs.lemmas.List.{length-map}
 use Rattle.sop_model.specs.declared.class.Class.{Class}
 use Rattle.sop_model.specs.declared.class.Class.TheVariants.{Detail, Prim, Point, Vertex}
@@ -19,7 +19,7 @@ use Rattle.sop_cells.proofs.PlaceLemmas.{held-append, based-append, own_of, shif
 use Rattle.sop_columns.specs.Names.{NameTable, Grows}
 use Rattle.sop_columns.proofs.NameLemmas.{grows_none, grows_then}
 use Rattle.sop_tables.specs.Tables.{TableLists, places_in, rows, table_room, IsTable, IsHeld, HasRoomFor, IsTableMade, IsNoStep}
-use Rattle.sop_tables.specs.Changes.{set_after, row_beside, rows_changed, Fits, IsOther, IsSource}
+use Rattle.sop_tables.specs.Changes.{set_after, row_beside, rows_changed, IsOther, Fits, IsSource}
 use Rattle.sop_tables.specs.declared.changed.Change.{Change}
 use Rattle.sop_tables.specs.declared.changed.Change.TheVariants.{Longer, Picked, Appended, Widened}
 use Rattle.sop_tables.proofs.FlatLemmas.{front_held, back_left}
@@ -61,18 +61,16 @@ one_gone s a b t n m o new made step gone = record { shifts = undone s b t (plac
 
 module _ (s a : ShelfPages) (n m : NameTable) (tb : TableLists) (change : Change) where
   rows_changed_stay : (come : List Place) → Shifts s a [] come → Grows n m → IsSource s n tb change → rows_changed a m tb change ≡ rows_changed s n tb change
-  rows_changed_stay come shifts grows is = by change (rows_stay s a n m come shifts grows tb is.table is.held) is.fits
+  rows_changed_stay come shifts grows is = by change is.fits (rows_stay s a n m come shifts grows tb is.table is.held)
     where
-      stay : (other : TableLists) → IsOther s n other → rows a m other ≡ rows s n other
-      stay other o = rows_stay s a n m come shifts grows other o.table o.held
+      others : (other : TableLists) → IsOther s n other → rows a m other ≡ rows s n other
+      others other o = rows_stay s a n m come shifts grows other o.table o.held
 
-      by : (change : Change) → rows a m tb ≡ rows s n tb → Fits s n tb change → rows_changed a m tb change ≡ rows_changed s n tb change
-      by (Longer more) same f = ap (λ (rs : List Row). rs ++ replicate more (default_row tb.set)) same
-      by (Picked numbers) same f = ap (λ (rs : List Row). picked rs empty_row numbers.now) same
-      by (Appended other) same f =
-          let late = stay other.now f.other in
-          λ j. map (row_widened tb.set other.now.set) (same j) ++ map (row_under (both_sets tb.set other.now.set) other.now.set) (late j)
-      by (Widened other) same f = let late = stay other.now f.other in λ j. row_beside tb.set other.now.set (first_row (same j) empty_row) (first_row (late j) empty_row) ∷ []
+      by : (change : Change) → Fits s n tb change → rows a m tb ≡ rows s n tb → rows_changed a m tb change ≡ rows_changed s n tb change
+      by (Longer more) f same = ap (λ (rs : List Row). rs ++ replicate more (default_row tb.set)) same
+      by (Picked numbers) f same = ap (λ (rs : List Row). picked rs empty_row numbers.now) same
+      by (Appended other) f same = let them = others other.now f.other in λ j. map (row_widened tb.set other.now.set) (same j) ++ map (row_under (both_sets tb.set other.now.set) other.now.set) (them j)
+      by (Widened other) f same = let them = others other.now f.other in λ j. row_beside tb.set other.now.set (first_row (same j) empty_row) (first_row (them j) empty_row) ∷ []
 
   -- a table that is made of one while places came beside it
   pub changed_late : (t : ShelfPages) (k : NameTable) (come : List Place) (new : TableLists) → Shifts s a [] come → Grows n m → IsSource s n tb change → IsChanged a t m k tb change new → IsChanged s t n k tb change new

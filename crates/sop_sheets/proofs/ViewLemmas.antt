@@ -1,11 +1,11 @@
 -- What a geometry that is kept as columns has, told by its sheet.
-use Rattle.std.proofs.Common.{◌≡◌, ◌++◌, length, map, ap, sym, ◌∙◌, arith}
+use Rattle.std.proofs.Common.{◌≡◌, ◌++◌, length, map, ap, sym, ◌∙◌, subst, arith}
 use Rattle.std.proofs.lemmas.List.{length-map}
 use Rattle.sop_model.specs.declared.class.Class.{Class}
 use Rattle.sop_model.specs.declared.class.Class.TheVariants.{Detail, Prim, Point, Vertex}
 use Rattle.sop_model.specs.declared.geo.Geo.{Geo}
 use Rattle.sop_model.specs.Vertices.{corners_of}
-use Rattle.sop_model.specs.Geometry.{heads_of, rows_of, count_of}
+use Rattle.sop_model.specs.Geometry.{heads_of, rows_of, count_of, IsSound, IsWithin, AreValuesWithin}
 use Rattle.sop_shape.specs.Shapes.{shape_of, HasShape}
 use Rattle.sop_pages.specs.Moves.{Covers}
 use Rattle.sop_cells.specs.Places.{own}
@@ -27,6 +27,15 @@ rows_many s n tb = length-tabulated tb.count (row_of (map (held s n tb.count) tb
 module _ (s : ShelfPages) (n : NameTable) (sheet : SheetLists) (is : IsSheet s n sheet) (g : Geo) (seen : geo_of s n sheet ≡ g) where
   own_geo : is.geo ≡ g
   own_geo = sym (sheet_stands s n sheet is) ∙ seen
+
+  pub sound_in : IsSound g
+  sound_in = subst IsSound own_geo is.sound
+
+  pub within_in : IsWithin g
+  within_in = subst IsWithin own_geo is.within
+
+  pub values_in : AreValuesWithin g
+  values_in = subst AreValuesWithin own_geo is.values
 
   pub set_in : (class : Class) → (table_of sheet class).set ≡ heads_of g class
   set_in class = is.stands.sets class ∙ ap (λ (h : Geo). heads_of h class) own_geo

@@ -2,7 +2,9 @@
 use Rattle.std.specs.Prelude.{◌≡◌, List, [], ◌++◌}
 use Rattle.sop_model.specs.declared.class.Class.{Class}
 use Rattle.sop_model.specs.declared.class.Class.TheVariants.{Detail, Prim, Point, Vertex}
-use Rattle.sop_shape.specs.Shapes.{ShapeLists}
+use Rattle.sop_model.specs.declared.geo.Geo.{Geo}
+use Rattle.sop_model.specs.Geometry.{heads_of, rows_of, IsSound, IsWithin, AreValuesWithin}
+use Rattle.sop_shape.specs.Shapes.{ShapeLists, HasShape}
 use Rattle.sop_cells.specs.declared.place.Place.{Place}
 use Rattle.sop_cells.specs.Shelves.{ShelfPages, Shifts}
 use Rattle.sop_columns.specs.Names.{NameTable, Grows}
@@ -48,3 +50,12 @@ pub record IsRemade (s t : ShelfPages) (n m : NameTable) (old : SheetLists) (cha
   pub tables : (class : Class) → IsTable t m (table_of new class)
   pub sets : (class : Class) → (table_of new class).set ≡ set_after (table_of old class).set (change_of changes class)
   pub rows : (class : Class) → rows t m (table_of new class) ≡ rows_changed s n (table_of old class) (change_of changes class)
+
+-- the geometry that changes and a shape make of a sheet
+pub record IsRebuilt (s : ShelfPages) (n : NameTable) (old : SheetLists) (changes : Changes) (shape : ShapeLists) (g : Geo) : Type 0 where
+  pub sets : (class : Class) → set_after (table_of old class).set (change_of changes class) ≡ heads_of g class
+  pub rows : (class : Class) → rows_changed s n (table_of old class) (change_of changes class) ≡ rows_of g class
+  pub has : HasShape g shape
+  pub sound : IsSound g
+  pub within : IsWithin g
+  pub values : AreValuesWithin g

@@ -1,14 +1,16 @@
 //! A geometry made beside another, class by class, and put in its place.
-ghost use Rattle.std.specs.Prelude.{◌≡◌, ◌^◌, ◌≤◌, [], IfOk, OnErr};
+ghost use Rattle.std.specs.Prelude.{◌≡◌, ◌^◌, ◌≤◌, [], IfOk, OnOk, OnErr};
+ghost use Rattle.sop_model.specs.declared.geo.Geo.{Geo};
 ghost use Rattle.sop_model.specs.declared.class.Class.{Class};
 ghost use Rattle.sop_pages.specs.Pages.{live_pages};
 ghost use Rattle.sop_cells.specs.Shelves.{Shifts};
 ghost use Rattle.sop_tables.specs.Tables.{IsHeld, HasRoomFor, IsNoStep};
 ghost use Rattle.sop_tables.specs.Changes.{IsSource};
-ghost use Rattle.sop_sheets.specs.Sheets.{table_of, places_of, sheet_room};
-ghost use Rattle.sop_sheets.specs.Remade.{change_of, places_made, sheet_of, AreChanged, IsRemade};
+ghost use Rattle.sop_sheets.specs.Sheets.{table_of, places_of, sheet_room, Becomes, Stays};
+ghost use Rattle.sop_sheets.specs.Remade.{change_of, places_made, sheet_of, AreChanged, IsRemade, IsRebuilt};
 
 use crate::sheet::Sheet;
+use crate::topology::Topology;
 use sop_cells::Shelf;
 use sop_columns::Names;
 use sop_tables::{Change, Table};
@@ -108,6 +110,27 @@ impl Sheet {
             vertex: mem::replace(&mut self.vertex, made.vertex),
         };
         old.release(shelf);
+    }
+
+    /// Makes the tables anew by `changes`, and puts them and another shape in the place of this sheet's. `Err` for want of memory: then
+    /// only names may have come.
+    pub(crate) fn rebuild(
+        &mut self,
+        changes: Changes<'_>,
+        topology: Topology,
+        shelf: &mut Shelf<'_>,
+        names: &mut Names,
+    ) -> Result<(), AllocError>
+        requires source { (class : Class) → IsSource shelf.old names.old (table_of self.old class) (change_of changes class) }
+        requires held { IsHeld shelf.old (places_of self.old) }
+        requires room { HasRoomFor shelf.old sheet_room }
+        ensures ok { OnOk result ((g : Geo) → IsRebuilt shelf.old names.old self.old changes.entry topology g → Becomes shelf.old shelf.new names.old names.new self.old self.new g) }
+        ensures err { OnErr result (Stays shelf.old shelf.new names.old names.new self.old self.new) }
+    {
+        let made = self.remade(changes, shelf, names)?;
+        self.replace(made, shelf);
+        self.topology = topology;
+        Ok(())
     }
 }
 

@@ -18,6 +18,7 @@ use std::sync::Arc;
 #[derive(Drop)]
 pub struct Topology {
     shape: Arc<Shape, Global>,
+    alloc: Global,
 }
 
 impl Model for Topology {
@@ -35,7 +36,14 @@ impl Topology {
         ensures { IfOk result (λ t. t ≡ shape) }
     {
         let shape = Arc::new(alloc, shape)?;
-        Ok(Topology { shape })
+        Ok(Topology { shape, alloc })
+    }
+
+    /// Another shape with one holder, in memory of the same allocator. `Err` for want of memory.
+    pub fn with_shape(&self, shape: Shape) -> Result<Topology, AllocError>
+        ensures { IfOk result (λ t. t ≡ shape) }
+    {
+        Topology::new(self.alloc, shape)
     }
 
     /// One more holder. `Err` for want of memory.
@@ -43,7 +51,10 @@ impl Topology {
         ensures { IfOk result (λ t. t ≡ self.now) }
     {
         let shape = Arc::try_clone(&self.shape)?;
-        Ok(Topology { shape })
+        Ok(Topology {
+            shape,
+            alloc: self.alloc,
+        })
     }
 
     /// The shape, to be read.
