@@ -6,3 +6,4 @@ pub mod CallLemmas
 pub mod MadeLemmas
 pub mod GrowLemmas
 pub mod RemadeLemmas
+pub mod LeftLemmas
