@@ -7,3 +7,4 @@ pub mod MadeLemmas
 pub mod GrowLemmas
 pub mod RemadeLemmas
 pub mod AppendLemmas
+pub mod LeftLemmas

@@ -1,8 +1,7 @@
 use Rattle.std.proofs.Common.{◌∙◌, sym, subst}
-use Rattle.sop_model.specs.declared.geo.Geo.{Geo}
 use Rattle.sop_tables.proofs.MadeLemmas.{still_held}
 use Rattle.sop_sheets.specs.Sheets.{SheetLists, places_of, Becomes}
-use Rattle.sop_sheets.specs.Remade.{sheet_of, IsRebuilt}
+use Rattle.sop_sheets.specs.Remade.{sheet_of}
 use Rattle.sop_sheets.proofs.RemadeLemmas.{remade_becomes}
 use Rattle.sop_sheets.proofs.sheet.Sheet.rebuild.Goals as goal
 
