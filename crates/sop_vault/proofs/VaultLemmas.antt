@@ -183,7 +183,7 @@ module _ (s : ShelfPages) (n : NameTable) (slots : Keyed SheetLists) (c : Counte
         omega arith;
   }
 
-  pub room_for_here : length slots < 2 ^ 64 → HasRoomFor s table_room
+  pub room_for_here : length slots < 2 ^ 64 → HasRoomFor s sheet_room
   room_for_here few = record { each = λ id. let a = counts_room places_of IsSheet geo_of s slots c.counts sheet_room (λ k. slot_few s n (at slots k) (c.sheets k)) id in omega arith }
 
   -- a sheet that is held once more is what it was
