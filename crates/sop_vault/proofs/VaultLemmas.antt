@@ -11,7 +11,7 @@ use Rattle.sop_cells.specs.Shelves.{ShelfPages, Shifts}
 use Rattle.sop_cells.proofs.PlaceLemmas.{own-append, same_shelf_pages}
 use Rattle.sop_columns.specs.Names.{NameTable, Grows}
 use Rattle.sop_columns.proofs.NameLemmas.{grows_none}
-use Rattle.sop_tables.specs.Tables.{places_in, table_room, IsHeld, HasRoom, HasRoomFor, IsNoStep}
+use Rattle.sop_tables.specs.Tables.{places_in, IsHeld, HasRoom, HasRoomFor, IsNoStep}
 use Rattle.sop_tables.proofs.RoomLemmas.{table_few}
 use Rattle.sop_model.specs.declared.class.Class.TheVariants.{Detail, Prim, Point, Vertex}
 use Rattle.sop_sheets.specs.Sheets.{SheetLists, sheet_room, places_of, geo_of, IsSheet, IsSheetStep, Becomes, Stays}
@@ -183,7 +183,7 @@ module _ (s : ShelfPages) (n : NameTable) (slots : Keyed SheetLists) (c : Counte
         omega arith;
   }
 
-  pub room_for_here : length slots < 2 ^ 64 → HasRoomFor s table_room
+  pub room_for_here : length slots < 2 ^ 64 → HasRoomFor s sheet_room
   room_for_here few = record { each = λ id. let a = counts_room places_of IsSheet geo_of s slots c.counts sheet_room (λ k. slot_few s n (at slots k) (c.sheets k)) id in omega arith }
 
   -- a sheet that is held once more is what it was
