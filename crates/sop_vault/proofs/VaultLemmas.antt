@@ -11,7 +11,7 @@ use Rattle.sop_cells.specs.Shelves.{ShelfPages, Shifts}
 use Rattle.sop_cells.proofs.PlaceLemmas.{own-append, same_shelf_pages}
 use Rattle.sop_columns.specs.Names.{NameTable, Grows}
 use Rattle.sop_columns.proofs.NameLemmas.{grows_none}
-use Rattle.sop_tables.specs.Tables.{places_in, table_room, IsHeld, HasRoom, HasRoomFor, IsNoStep}
+use Rattle.sop_tables.specs.Tables.{places_in, IsHeld, HasRoom, HasRoomFor, IsNoStep}
 use Rattle.sop_tables.proofs.RoomLemmas.{table_few}
 use Rattle.sop_model.specs.declared.class.Class.TheVariants.{Detail, Prim, Point, Vertex}
 use Rattle.sop_sheets.specs.Sheets.{SheetLists, sheet_room, places_of, geo_of, IsSheet, IsSheetStep, Becomes, Stays}

@@ -1,17 +1,20 @@
-//! Elements that come to a geometry.
-ghost use Rattle.std.specs.Prelude.{◌↔◌, ◌+◌, ◌≤◌, Some, IfErr, OnOk, OnErr, IfSome, IsTrue};
+//! Elements that come to a geometry, go from it or take another order.
+ghost use Rattle.std.specs.Prelude.{◌≡◌, ◌↔◌, ◌+◌, ◌≤◌, Some, IfErr, OnOk, OnErr, IfSome, IsSomeAnd, IsTrue};
 ghost use Rattle.sop_model.specs.declared.class.Class.TheVariants.{Point};
 ghost use Rattle.sop_model.specs.Limits.{most_points};
 ghost use Rattle.sop_model.specs.Geometry.{count_of};
-ghost use Rattle.sop_model.specs.Rows.{points_added};
+ghost use Rattle.sop_model.specs.Rows.{points_added, reordered, IsOrderOf};
+ghost use Rattle.sop_model.specs.Sweep.{swept, AreMarksOf};
 ghost use Rattle.sop_vault.specs.Keyed.{at, IsLive};
 ghost use Rattle.sop_vault.specs.Vaults.{Changed, IsAsBefore};
 ghost use Rattle.sop_vault.specs.Refusals.{points_refused};
+ghost use Rattle.sop_vault.specs.declared.vault_end.VaultEnd.TheVariants.{Memory};
 
 use crate::vault::{GeoKey, Vault};
 use crate::vault_end::VaultEnd;
 use sop_model::Class;
 use sop_model::limits::MOST_POINTS;
+use sop_rows::Marks;
 
 impl<'b> Vault<'b> {
     /// Adds `more` points behind the others, with defaults and in no group. Full pages stay shared. `Limit` where the geometry would
@@ -33,6 +36,41 @@ impl<'b> Vault<'b> {
         self.shelf.each_is_counted();
         added?;
         Ok(())
+    }
+
+    /// Takes away the marked elements, and what can't stay without them; the rest keeps its order. `Memory` leaves all as it was, but
+    /// that names may have come.
+    pub fn keep(&mut self, key: GeoKey, marks: &Marks) -> Result<(), VaultEnd>
+        requires marks { IsSomeAnd (at self.old.geos key) (λ g. AreMarksOf g marks.now) }
+        ensures ok { OnOk result (IfSome (at self.old.geos key) (λ g. Changed self.old self.new key (Some (swept g marks.now)))) }
+        ensures memory { IfErr result (λ end. end ≡ Memory) }
+        ensures err { OnErr result (IsAsBefore self.old self.new) }
+    {
+        let _capacity = self.sheets.capacity();
+        let Some(sheet) = self.sheets.get_mut(key.number()) else {
+            unreachable!()
+        };
+        let kept = sheet.keep(marks, &mut self.shelf, &mut self.names);
+        self.shelf.each_is_counted();
+        Ok(kept?)
+    }
+
+    /// Puts points or primitives in another order: the new one at a place is the old one of the number that stands there in `perm`.
+    /// Vertices go with their primitives, and of the detail and of vertices nothing changes. `Memory` leaves all as it was, but that
+    /// names may have come.
+    pub fn reorder(&mut self, key: GeoKey, class: Class, perm: &[u32]) -> Result<(), VaultEnd>
+        requires order { IsSomeAnd (at self.old.geos key) (λ g. IsOrderOf (count_of g class) perm.now) }
+        ensures ok { OnOk result (IfSome (at self.old.geos key) (λ g. Changed self.old self.new key (Some (reordered g class perm.now)))) }
+        ensures memory { IfErr result (λ end. end ≡ Memory) }
+        ensures err { OnErr result (IsAsBefore self.old self.new) }
+    {
+        let _capacity = self.sheets.capacity();
+        let Some(sheet) = self.sheets.get_mut(key.number()) else {
+            unreachable!()
+        };
+        let moved = sheet.reorder(class, perm, &mut self.shelf, &mut self.names);
+        self.shelf.each_is_counted();
+        Ok(moved?)
     }
 
     // Whether a geometry may have so many points more.

@@ -1,4 +1,4 @@
-use Rattle.std.proofs.Common.{◌<◌, ◌≤◌, ◌^◌, length, sym, arith}
+use Rattle.std.proofs.Common.{◌<◌, ◌^◌, length, sym, arith}
 use Rattle.sop_model.specs.declared.geo.Geo.{Geo}
 use Rattle.sop_model.specs.Rows.{points_added}
 use Rattle.sop_tables.specs.Tables.{table_room}
@@ -16,7 +16,8 @@ add_points-added-requires-clause-held c = here_held c.self.inside.shelf c.self.i
 pub add_points-added-requires-clause-room : goal.add_points-added-requires-clause-room
 add_points-added-requires-clause-room c =
     let few : length c.self.inside.sheets.slots < 2 ^ 64 = let a = c.capacity-capacity.ensures.slots in let b = c.capacity-capacity.type_inv in omega arith in
-    less_room _ sheet_room table_room (omega arith) (room_for_here c.self.inside.shelf c.self.inside.names c.self.inside.sheets.slots c.self.invariant c.number.result c.in-Some.sheet.now (sym c.in-Some.ensures.value) few)
+    less_room c.self.inside.shelf sheet_room table_room (omega arith)
+    (room_for_here c.self.inside.shelf c.self.inside.names c.self.inside.sheets.slots c.self.invariant c.number.result c.in-Some.sheet.now (sym c.in-Some.ensures.value) few)
 
 pub invariant_of-self : goal.invariant_of-self
 invariant_of-self c = stays_counted c.self.inside.shelf c.self.inside.names c.self.inside.sheets.slots c.self.invariant c.number.result c.in-Some.sheet.now (sym c.in-Some.ensures.value) c.add_points-added.new.shelf c.add_points-added.new.names c.add_points-added.new.self c.each_is_counted.ensures c.in_err-added.ensures.err
