@@ -15,3 +15,4 @@ pub mod SourceLemmas
 pub mod BesideLemmas
 pub mod ChangedRows
 pub mod SpareCells
+pub mod LoadedLemmas

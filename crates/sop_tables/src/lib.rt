@@ -6,6 +6,7 @@ mod cells;
 mod changed;
 mod fresh;
 mod heads;
+mod loaded;
 mod lots;
 mod spare;
 mod table;
