@@ -17,3 +17,4 @@ pub mod ChangedRows
 pub mod SpareCells
 pub mod NamedLemmas
 pub mod JoinedLemmas
+pub mod LoadedLemmas

@@ -7,6 +7,7 @@ mod changed;
 mod fresh;
 mod heads;
 mod joined;
+mod loaded;
 mod lots;
 mod sets;
 mod spare;
