@@ -8,3 +8,4 @@ pub mod GrowLemmas
 pub mod RemadeLemmas
 pub mod AppendLemmas
 pub mod LeftLemmas
+pub mod AddLemmas

@@ -1,6 +1,7 @@
 //! A geometry as columns: a table for each class of elements, and the shape of its primitives.
 #![tactic(auto)]
 
+mod adding;
 mod appending;
 mod cells;
 mod columns;
