@@ -3,3 +3,4 @@ pub mod StepLemmas
 pub mod VaultLemmas
 pub mod HeadLemmas
 pub mod ShareLemmas
+pub mod ElementLemmas

@@ -4,6 +4,7 @@
 //! one that is changed gets pages of its own for what changes. Contracts see a map from keys to geometries.
 #![tactic(auto)]
 
+mod adding;
 mod appending;
 mod columns;
 mod elements;

@@ -24,7 +24,7 @@ pub unreachable-requires-in_default-get_mut : goal.unreachable-requires-in_defau
 unreachable-requires-in_default-get_mut c =
     let s = c.self.inside.shelf in let n = c.self.inside.names in let slots = c.self.inside.sheets.slots in
     let free = ap (λ (v : VaultMap). at v.geos c.args.into) (sym c.self.view_is) ∙ ap (at (all_seen geo_of s n slots)) (sym c.number-2.ensures)
-        ∙ seen_at places_of IsSheet geo_of s n slots c.number-2.result ∙ ap (option_map (geo_of s n)) (sym c.in_default-get_mut.ensures.value) in
+    ∙ seen_at places_of IsSheet geo_of s n slots c.number-2.result ∙ ap (option_map (geo_of s n)) (sym c.in_default-get_mut.ensures.value) in
     false≢true (subst (λ (o : Option Geo). IsSome o) free c.requires.into)
 
 pub append-appended-requires-clause-held : goal.append-appended-requires-clause-held
@@ -45,9 +45,9 @@ append-appended-requires-clause-within c =
     let s = c.self.inside.shelf in let n = c.self.inside.names in let slots = c.self.inside.sheets.slots in let v = c.args.self.now in
     let b = geo_of s n c.in-Some.more.now in let a = geo_of s n c.in-Some-get_mut.sheet.now in
     let both = asked s n slots c.self.invariant c.number.result c.in-Some.more.now (sym c.in-Some.ensures) v c.self.view_is c.args.from c.number.ensures
-        (λ (h : Geo). IfSome (at v.geos c.args.into) (λ g. IsTrue c.has_room_for.result ↔ IsWithin (appended g h))) c.has_room_for.ensures in
+    (λ (h : Geo). IfSome (at v.geos c.args.into) (λ g. IsTrue c.has_room_for.result ↔ IsWithin (appended g h))) c.has_room_for.ensures in
     let one = asked s n slots c.self.invariant c.number-2.result c.in-Some-get_mut.sheet.now (sym c.in-Some-get_mut.ensures.value) v c.self.view_is c.args.into c.number-2.ensures
-        (λ (g : Geo). IsTrue c.has_room_for.result ↔ IsWithin (appended g b)) both in
+    (λ (g : Geo). IsTrue c.has_room_for.result ↔ IsWithin (appended g b)) both in
     subst (λ (sheet : SheetLists). IsWithin (appended a (geo_of s n sheet))) (sym c.in_ok-more.ensures) (one.0 c.if-not-has_room_for.false)
 
 pub invariant_of-self : goal.invariant_of-self
@@ -65,7 +65,7 @@ returns-clause-ok c =
     let s = c.self.inside.shelf in let n = c.self.inside.names in let slots = c.self.inside.sheets.slots in let v = c.args.self.now in
     let t = c.append-appended.new.shelf in let m = c.append-appended.new.names in
     let made = changed_clause s n slots c.self.invariant c.number-2.result c.in-Some-get_mut.sheet.now (sym c.in-Some-get_mut.ensures.value) t m c.append-appended.new.self c.each_is_counted.ensures
-        (λ (g : Geo). appended g (geo_of s n c.in_ok-more.more)) c.in_ok-appended.ensures.ok v c.self.view_is c.args.into c.number-2.ensures in
+    (λ (g : Geo). appended g (geo_of s n c.in_ok-more.more)) c.in_ok-appended.ensures.ok v c.self.view_is c.args.into c.number-2.ensures in
     let after = vault_of t m (slice_set slots c.number-2.result (Some c.append-appended.new.self)) in
     told s n slots c.self.invariant c.number.result c.in-Some.more.now (sym c.in-Some.ensures) v c.self.view_is c.args.from c.number.ensures
     (λ (h : Geo). IfSome (at v.geos c.args.into) (λ g. Changed v after c.args.into (Some (appended g h))))

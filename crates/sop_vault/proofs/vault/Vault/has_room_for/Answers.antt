@@ -5,7 +5,6 @@ use Rattle.sop_model.specs.Geometry.{IsWithin}
 use Rattle.sop_model.specs.Appending.{appended}
 use Rattle.sop_sheets.specs.Sheets.{geo_of}
 use Rattle.sop_vault.specs.Keyed.{at}
-
 use Rattle.sop_vault.proofs.HeadLemmas.{told}
 use Rattle.sop_vault.proofs.vault.Vault.has_room_for.Goals as goal
 
