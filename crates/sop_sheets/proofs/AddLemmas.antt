@@ -1,5 +1,5 @@
 -- Primitives and vertices added: what stands in the tables and in the shape then, and which geometry that is.
-use Rattle.std.proofs.Common.{◌≡◌, ◌≢◌, ℕ, suc, ◌+◌, ◌<◌, ◌≤◌, Bool, List, [], ◌∷◌, ◌++◌, length, map, replicate, get_or, refl, ap, sym, ◌∙◌, subst, arith, inl, inr}
+use Rattle.std.proofs.Common.{◌≡◌, ◌≢◌, ℕ, suc, ◌+◌, ◌<◌, ◌≤◌, Bool, List, [], ◌∷◌, ◌++◌, length, replicate, refl, ap, sym, ◌∙◌, subst, arith, inl, inr}
 use Rattle.std.specs.Prelude.{◌⊎◌, All, slice_index_or, Result, Ok, Err, IfOk, OnErr}
 use Rattle.std.proofs.lemmas.List.{append-nil, length-map, length-append, length-replicate, get_or_past}
 use Rattle.std.proofs.lemmas.List.Elements.{All-map, All-weaker, All-replicate}
@@ -14,9 +14,9 @@ use Rattle.sop_model.specs.Vertices.{corners_of}
 use Rattle.sop_model.specs.Geometry.{empty_row, only_position, heads_of, rows_of, count_of, IsSound, IsWithin, AreValuesWithin}
 use Rattle.sop_model.specs.Rows.{default_row, picked, with_class, prim_added, corners_added, vertices_added, ArePoints, ArePlaces}
 use Rattle.sop_model.proofs.RowLists.{All-under_map}
-use Rattle.sop_rows.proofs.ClassRows.{HasShapeOf, HasShapeOf-with_class, rows_of-with_class}
+use Rattle.sop_rows.proofs.ClassRows.{HasShapeOf-with_class, rows_of-with_class}
 use Rattle.sop_rows.proofs.ElementOps.{heads_of-prim_added}
-use Rattle.sop_rows.proofs.VertexOps.{heads_of-vertices_added, rows_of-vertices_added, vertices_of-vertices_added, All-vertices_added, prims_of-vertices_added}
+use Rattle.sop_rows.proofs.VertexOps.{rows_of-vertices_added, vertices_of-vertices_added, All-vertices_added}
 use Rattle.sop_rows.proofs.PartLemmas.{prim_rows-prim_added, vertex_rows-prim_added}
 use Rattle.sop_rows.proofs.LawLemmas.{leave_sound, leave_within, leave_values_within}
 use Rattle.sop_shape.specs.Shapes.{ShapeLists, HasShape}
@@ -25,7 +25,7 @@ use Rattle.sop_cells.specs.declared.place.Place.{Place}
 use Rattle.sop_cells.specs.Places.{own}
 use Rattle.sop_cells.specs.Shelves.{ShelfPages, Shifts}
 use Rattle.sop_cells.proofs.CutLemmas.{le_or}
-use Rattle.sop_cells.proofs.PlaceLemmas.{stays, based-append}
+use Rattle.sop_cells.proofs.PlaceLemmas.{stays}
 use Rattle.sop_columns.specs.Names.{NameTable, Grows}
 use Rattle.sop_columns.proofs.NameLemmas.{grows_none, grows_then}
 use Rattle.sop_tables.specs.Tables.{TableLists, places_in, rows, IsTable, IsHeld, IsTableStep, IsTableMade, IsNoStep}
@@ -33,9 +33,9 @@ use Rattle.sop_tables.specs.Changes.{set_after, rows_changed, IsSource}
 use Rattle.sop_tables.specs.declared.changed.Change.TheVariants.{Longer}
 use Rattle.sop_tables.proofs.KeptLemmas.{frame}
 use Rattle.sop_tables.proofs.MadeLemmas.{still_held, undone, before_none}
-use Rattle.sop_tables.proofs.StepLemmas.{table_held, made_held}
+use Rattle.sop_tables.proofs.StepLemmas.{made_held}
 use Rattle.sop_sheets.specs.Sheets.{SheetLists, table_of, places_of, geo_of, Stands, IsSheet, Becomes}
-use Rattle.sop_sheets.proofs.SheetLemmas.{same_shape, sheet_stands, in_sheet, in_two, with_table_times}
+use Rattle.sop_sheets.proofs.SheetLemmas.{same_shape, in_sheet, in_two, with_table_times}
 use Rattle.sop_sheets.specs.Remade.{change_of, IsRemade}
 use Rattle.sop_sheets.specs.declared.remade.Changes.{Changes}
 use Rattle.sop_sheets.proofs.ViewLemmas.{set_in, rows_in, count_in, table_in, prims_in, vertices_in, sound_in, within_in, values_in}

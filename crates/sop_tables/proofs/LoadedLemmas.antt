@@ -1,10 +1,10 @@
 -- A table that is loaded with a class of a geometry: heads, values and flags that are read one by one.
-use Rattle.std.proofs.Common.{◌≡◌, ℕ, zero, suc, ◌+◌, ◌*◌, ◌<◌, ◌≤◌, Bool, false, List, [], ◌∷◌, ◌++◌, length, map, take, drop, get_or, refl, ap, sym, ◌∙◌, subst, arith, length-drop}
-use Rattle.std.specs.Prelude.{All, Option, Some, None, Result, Ok, Err, IfOk, pos, slice_get}
+use Rattle.std.proofs.Common.{◌≡◌, ℕ, zero, suc, ◌+◌, ◌<◌, ◌≤◌, Bool, false, List, [], ◌∷◌, ◌++◌, length, map, take, drop, get_or, refl, ap, sym, ◌∙◌, subst, arith, length-drop}
+use Rattle.std.specs.Prelude.{All, Option, Some, None, pos, slice_get}
 use Rattle.std.specs.Option.{option_map, option_and_then}
 use Rattle.std.proofs.lemmas.Option.{slice_get-get_or}
 use Rattle.std.proofs.lemmas.List.{map-append, take_more, take_all, get_or-drop, get_or_default, length-map}
-use Rattle.std.proofs.lemmas.List.Elements.{All-append, All-push, All-get_or, All-head, All-tail}
+use Rattle.std.proofs.lemmas.List.Elements.{All-append, All-push, All-get_or}
 use Rattle.std.proofs.Math.Seq.{take-add}
 use Rattle.sop_model.specs.declared.class.Class.{Class}
 use Rattle.sop_model.specs.declared.class.Class.TheVariants.{Detail, Prim, Point, Vertex}
@@ -31,7 +31,7 @@ use Rattle.sop_columns.specs.Fitted.{StandsFor}
 use Rattle.sop_columns.proofs.FittedLemmas.{stands_grow}
 use Rattle.sop_columns.specs.Bits.{flag, placed, AreBits, AreJoined}
 use Rattle.sop_tables.specs.Transposed.{tabulated, item}
-use Rattle.sop_tables.specs.Tables.{TableLists, held, rows, IsTableMade}
+use Rattle.sop_tables.specs.Tables.{TableLists, rows, IsTableMade}
 use Rattle.sop_tables.specs.Changes.{no_head, IsNewColumn, AreNewColumns, AreNewMembers, rows_wanted}
 use Rattle.sop_tables.specs.Loaded.{columns_of, is_member, members_of}
 use Rattle.sop_tables.proofs.TabulatedLemmas.{tabulated_same}

@@ -1,20 +1,23 @@
 -- Whether a primitive or vertices may come to the geometry at a key: what tests tell, and which geometries pass a limit.
-use Rattle.std.proofs.Common.{◌≡◌, ℕ, ◌+◌, ◌<◌, ◌≤◌, ◌&&◌, Bool, true, false, ltb-true, lt-ltb, List, length, sym, ◌∙◌, subst, arith}
-use Rattle.std.specs.Prelude.{All, Option, Some, nat_lt}
+use Rattle.std.proofs.Common.{◌≡◌, ℕ, ◌+◌, ◌<◌, ◌≤◌, ◌&&◌, Bool, true, false, ltb-true, lt-ltb, List, length, refl, ap, sym, ◌∙◌, arith}
+use Rattle.std.specs.Prelude.{All, nat_lt}
 use Rattle.std.specs.List.{list_all}
 use Rattle.std.proofs.lemmas.Bool.{and_parts, and_from, false≢true}
 use Rattle.std.proofs.lemmas.List.Elements.{All-weaker}
 use Rattle.std.proofs.lemmas.List.Sums.{AllPass-from_list_all, list_all-from_AllPass}
-use Rattle.sop_model.specs.declared.class.Class.TheVariants.{Prim, Point, Vertex}
+use Rattle.sop_model.specs.declared.class.Class.TheVariants.{Prim, Vertex}
 use Rattle.sop_model.specs.declared.geo.Geo.{Geo}
 use Rattle.sop_model.specs.Limits.{most_prims, most_vertices}
-use Rattle.sop_model.specs.Geometry.{count_of, IsWithin}
+use Rattle.sop_model.specs.Geometry.{count_of}
 use Rattle.sop_model.specs.Rows.{prim_added, vertices_added, ArePlaces}
 use Rattle.sop_rows.proofs.LawLemmas.{leave_within}
 use Rattle.sop_cells.specs.Shelves.{ShelfPages}
 use Rattle.sop_columns.specs.Names.{NameTable}
 use Rattle.sop_sheets.specs.Sheets.{SheetLists, geo_of, IsSheet}
-use Rattle.sop_sheets.proofs.ViewLemmas.{within_in}
+use Rattle.std.proofs.lemmas.List.{length-map}
+use Rattle.sop_model.proofs.LimitsLemmas.{within_prims}
+use Rattle.sop_sheets.proofs.SheetLemmas.{sheet_stands}
+use Rattle.sop_sheets.proofs.ViewLemmas.{within_in, count_in}
 use Rattle.sop_vault.specs.Refusals.{PassesLimit}
 
 -- numbers below a count
@@ -51,3 +54,9 @@ module _ (s : ShelfPages) (n : NameTable) (sheet : SheetLists) (is : IsSheet s n
 
   pub vertices_full : (adds : List (ℕ × ℕ)) → ArePlaces g adds → (count_of g Vertex + length adds ≤ most_vertices → ⊥) → PassesLimit (vertices_added g adds)
   vertices_full adds are full within = full ((leave_within.add_vertices g adds (within_in s n sheet is g seen) are).0 within)
+
+-- a geometry has no more primitives than it may have
+pub prims_within : (s : ShelfPages) (n : NameTable) (sheet : SheetLists) → IsSheet s n sheet → sheet.prim.count ≤ most_prims
+prims_within s n sheet is =
+    let w = within_prims is.within in let c = count_in s n sheet is (geo_of s n sheet) refl Prim in let e = sheet_stands s n sheet is in
+    let l = length-map is.geo.prims (λ p. p.row) in let f = ap (λ (g : Geo). count_of g Prim) e in omega arith

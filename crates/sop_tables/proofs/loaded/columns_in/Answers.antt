@@ -1,7 +1,6 @@
-use Rattle.std.proofs.Common.{◌≡◌, ◌++◌, ◌∷◌, [], length, subst, arith}
-use Rattle.sop_model.specs.Geometry.{heads_of, count_of}
+use Rattle.std.proofs.Common.{arith}
+use Rattle.sop_model.specs.Geometry.{heads_of}
 use Rattle.sop_model.specs.Rows.{column_of}
-use Rattle.sop_tables.specs.Changes.{no_head}
 use Rattle.sop_tables.proofs.MadeLemmas.{no_step, on_err, no_columns, columns_held, columns_gone, still_held}
 use Rattle.sop_tables.proofs.LoadedLemmas.{next_loaded, columns_loaded}
 use Rattle.sop_columns.proofs.NameLemmas.{grows_none}

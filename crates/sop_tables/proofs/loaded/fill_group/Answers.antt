@@ -1,6 +1,4 @@
-use Rattle.std.proofs.Common.{◌∙◌, false, length, sym, subst, arith}
-use Rattle.std.specs.Prelude.{List, Option}
-use Rattle.sop_cells.specs.declared.place.Place.{Place}
+use Rattle.std.proofs.Common.{◌∙◌, arith}
 use Rattle.sop_columns.proofs.BitLemmas.{joined_more, shifts_on}
 use Rattle.sop_tables.proofs.LoadedLemmas.{count_few, member_read, none_filled}
 use Rattle.sop_tables.specs.Loaded.{is_member}

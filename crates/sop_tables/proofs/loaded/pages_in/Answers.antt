@@ -3,7 +3,6 @@ use Rattle.sop_model.specs.Rows.{column_of}
 use Rattle.sop_pages.specs.declared.cell.Cell.{Cell}
 use Rattle.sop_cells.specs.Shelves.{IsPaged}
 use Rattle.sop_columns.proofs.FittedLemmas.{paged_full, paged_push}
-use Rattle.sop_columns.proofs.NameLemmas.{grows_then}
 use Rattle.sop_tables.proofs.LoadedLemmas.{page_more, stands_all, length-column}
 use Rattle.sop_tables.proofs.loaded.pages_in.Goals as goal
 

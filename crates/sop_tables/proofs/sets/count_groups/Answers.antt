@@ -1,7 +1,6 @@
-use Rattle.std.proofs.Common.{◌≡◌, ◌+◌, ◌++◌, ◌∷◌, [], not, filter, length, take, List, ℕ, true, false, ◌∙◌, ap, sym, length-append, arith}
+use Rattle.std.proofs.Common.{◌+◌, ◌∷◌, [], not, filter, length, take, List, ℕ, ◌∙◌, ap, sym, length-append, arith}
 use Rattle.std.specs.List.{list_any}
 use Rattle.std.specs.Str.{bytes_eq}
-use Rattle.sop_model.specs.declared.geo.Head.{Head}
 use Rattle.sop_tables.proofs.NamedLemmas.{filter_next, filter_skipped}
 use Rattle.sop_tables.proofs.sets.count_groups.Goals as goal
 use Rattle.sop_tables.proofs.sets.count_groups.Goals.{then-not-has_group, else-not-has_group}

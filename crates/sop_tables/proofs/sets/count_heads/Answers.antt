@@ -1,4 +1,4 @@
-use Rattle.std.proofs.Common.{◌≡◌, ◌+◌, ◌++◌, ◌∷◌, [], not, filter, length, take, List, ℕ, true, false, ◌∙◌, ap, sym, length-append, arith}
+use Rattle.std.proofs.Common.{◌+◌, ◌∷◌, [], not, filter, length, take, List, ℕ, ◌∙◌, ap, sym, length-append, arith}
 use Rattle.std.specs.List.{list_any}
 use Rattle.std.specs.Str.{bytes_eq}
 use Rattle.sop_model.specs.declared.geo.Head.{Head}

@@ -14,7 +14,7 @@ use Rattle.sop_columns.proofs.NameLemmas.{grows_none}
 use Rattle.sop_tables.specs.Tables.{TableLists, places_in, IsHeld}
 use Rattle.sop_tables.specs.Changes.{ArePicks}
 use Rattle.sop_tables.proofs.MadeLemmas.{still_held}
-use Rattle.sop_sheets.specs.Sheets.{SheetLists, places_of, geo_of, IsSheet, Becomes, Stays}
+use Rattle.sop_sheets.specs.Sheets.{SheetLists, places_of, geo_of, IsSheet, Becomes}
 use Rattle.sop_sheets.specs.contracts.sheet.Sheet.{the_view}
 use Rattle.sop_sheets.proofs.ViewLemmas.{count_in, shape_in, set_in, rows_in, table_in}
 use Rattle.sop_sheets.proofs.CallLemmas.{err_by, stays_still}

@@ -29,3 +29,6 @@ pub returns-clause-ok : goal.returns-clause-ok
 returns-clause-ok c =
     changed_clause c.self.inside.shelf c.self.inside.names c.self.inside.sheets.slots c.self.invariant c.number.result c.in-Some.sheet.now (sym c.in-Some.ensures.value) c.add_prim-added.new.shelf c.add_prim-added.new.names c.add_prim-added.new.self c.each_is_counted.ensures
     (λ (g : Geo). prim_added g c.args.closed c.args.points.now) c.in_ok-added.ensures.ok c.args.self.now c.self.view_is c.args.key c.number.ensures
+
+pub returns-in-Err-clause-refused : goal.returns-in-Err-clause-refused
+returns-in-Err-clause-refused c = c.in-Err.ensures.refused c.args.closed

@@ -1,5 +1,5 @@
-use Rattle.std.proofs.Common.{◌≡◌, ◌<◌, ◌^◌, ◌∙◌, length, ap, sym, subst, refl, arith}
-use Rattle.std.specs.Prelude.{◌↔◌, Option, Some, None, IsSome, IsTrue, IfSome, option_map, slice_set}
+use Rattle.std.proofs.Common.{◌<◌, ◌^◌, ◌∙◌, length, ap, sym, subst, arith}
+use Rattle.std.specs.Prelude.{◌↔◌, Option, Some, IsSome, IsTrue, IfSome, option_map, slice_set}
 use Rattle.std.proofs.lemmas.Bool.{false≢true}
 use Rattle.sop_model.specs.declared.geo.Geo.{Geo}
 use Rattle.sop_model.specs.Geometry.{IsWithin}
@@ -11,7 +11,7 @@ use Rattle.sop_vault.specs.Counted.{all_seen}
 use Rattle.sop_vault.proofs.StepLemmas.{seen_at}
 use Rattle.sop_vault.specs.Vaults.{VaultMap, Changed, vault_of}
 use Rattle.sop_vault.proofs.HeadLemmas.{told, asked}
-use Rattle.sop_vault.proofs.VaultLemmas.{sheet_here, here_held, room_for_here, call_counted, stays_counted, changed_clause, kept_clause, unchanged, err_by}
+use Rattle.sop_vault.proofs.VaultLemmas.{here_held, room_for_here, call_counted, stays_counted, changed_clause, kept_clause, unchanged, err_by}
 use Rattle.sop_vault.proofs.vault.Vault.append.Goals as goal
 
 pub returns-then-not-has_room_for-clause-err : goal.returns-then-not-has_room_for-clause-err
