@@ -49,7 +49,7 @@ prim_refused closed points g Limit = ArePoints g points × PassesLimit (prim_add
 prim_refused closed points g Memory = ⊤
 prim_refused closed points g _ = ⊥
 
--- vertices at the ends of primitives that are there: one of the points isn't there; all are, and there is no room
+-- vertices at the ends of primitives: one of the primitives or points isn't there; all are, and there is no room
 abbrev pub vertices_refused : List (ℕ × ℕ) → Geo → VaultEnd → Type 0
 vertices_refused adds g NoPoint = ArePlaces g adds → ⊥
 vertices_refused adds g Limit = ArePlaces g adds × PassesLimit (vertices_added g adds)

@@ -17,7 +17,8 @@ use sop_model::limits::{MOST_PRIMS, MOST_VERTICES};
 use sop_sheets::Sheet;
 
 impl<'b> Vault<'b> {
-    /// Adds a primitive behind the others, with a vertex on each of these points in turn; all have defaults and are in no group.
+    /// Adds a primitive behind the others, with a vertex on each of these points in turn; all have defaults and are in no group. There
+    /// may be no point: such a primitive stays until the next `keep`.
     /// `NoPoint` where the geometry lacks one of the points, else `Limit` where it would have more than 1,000,000 primitives or
     /// 4,000,000 vertices.
     pub fn add_prim(&mut self, key: GeoKey, closed: bool, points: &[u32]) -> Result<(), VaultEnd>
@@ -39,7 +40,8 @@ impl<'b> Vault<'b> {
         Ok(())
     }
 
-    /// Adds a vertex for each primitive and point in turn, on that point at the end of that primitive, with defaults and in no group.
+    /// Adds a vertex for each primitive and point in turn, on that point at the end of that primitive, with defaults and in no group. The
+    /// time grows with all vertices of the geometry, so many are best handed over at once.
     /// `NoPoint` where the geometry lacks one of the primitives or points, else `Limit` where it would have more than 4,000,000 vertices.
     pub fn add_vertices(&mut self, key: GeoKey, adds: &[(u32, u32)]) -> Result<(), VaultEnd>
         requires live { IsLive self.old.geos key }

@@ -38,8 +38,9 @@ impl<'b> Vault<'b> {
         Ok(())
     }
 
-    /// Takes away the marked elements, and what can't stay without them; the rest keeps its order. `Memory` leaves all as it was, but
-    /// that names may have come.
+    /// Takes away the marked elements, and what can't stay without them; the rest keeps its order. A primitive without vertices goes, also
+    /// where nothing is marked. With a primitive whose points are marked with it go those that no other vertex uses. There are as many
+    /// marks as elements. `Memory` leaves all as it was, but that names may have come.
     pub fn keep(&mut self, key: GeoKey, marks: &Marks) -> Result<(), VaultEnd>
         requires marks { IsSomeAnd (at self.old.geos key) (λ g. AreMarksOf g marks.now) }
         ensures ok { OnOk result (IfSome (at self.old.geos key) (λ g. Changed self.old self.new key (Some (swept g marks.now)))) }
@@ -55,9 +56,9 @@ impl<'b> Vault<'b> {
         Ok(kept?)
     }
 
-    /// Puts points or primitives in another order: the new one at a place is the old one of the number that stands there in `perm`.
-    /// Vertices go with their primitives, and of the detail and of vertices nothing changes. `Memory` leaves all as it was, but that
-    /// names may have come.
+    /// Puts points or primitives in another order: the new one at a place is the old one of the number that stands there in `perm`, which
+    /// has each number once. Vertices go with their primitives. With the class of the detail or of vertices nothing changes. `Memory`
+    /// leaves all as it was, but that names may have come.
     pub fn reorder(&mut self, key: GeoKey, class: Class, perm: &[u32]) -> Result<(), VaultEnd>
         requires order { IsSomeAnd (at self.old.geos key) (λ g. IsOrderOf (count_of g class) perm.now) }
         ensures ok { OnOk result (IfSome (at self.old.geos key) (λ g. Changed self.old self.new key (Some (reordered g class perm.now)))) }

@@ -1,6 +1,6 @@
 //! The vault: keys, shares of geometries, and views.
 ghost use Rattle.std.specs.Prelude.{◌≡◌, ℕ, ◌+◌, ◌≤◌, [], Some, None, IfOk, IfErr, OnOk, OnErr, IfSome, IsSomeAnd, IsTrue};
-ghost use Rattle.sop_model.specs.Geometry.{empty_geo};
+ghost use Rattle.sop_model.specs.Geometry.{empty_geo, IsReadable, AreValuesWithin};
 ghost use Rattle.sop_model.specs.Values.{is_value_within};
 ghost use Rattle.sop_columns.specs.Names.{value_of, IsNumbered, IsThere};
 ghost use Rattle.sop_model.specs.Rows.{value_set, member_set, HasHead, HasGroup, HasElement, IsOfHead};
@@ -138,10 +138,12 @@ impl<'b> Vault<'b> {
         self.shelf.each_is_counted();
     }
 
-    /// The geometry, to be read. It takes no memory.
+    /// The geometry, to be read: it is well made, but that primitives may lack vertices, and within the limits. It takes no memory.
     pub fn view(&self, key: GeoKey) -> GeoRef<'_>
         requires { IsLive self.now.geos key }
-        ensures { at self.now.geos key ≡ Some result }
+        ensures geo { at self.now.geos key ≡ Some result }
+        ensures readable { IsReadable result }
+        ensures values { AreValuesWithin result }
     {
         let Some(sheet) = self.sheets.get(key.key) else {
             unreachable!()

@@ -2,8 +2,8 @@
 use std::alloc::AllocError;
 use thiserror::Error;
 
-/// Why a call of a vault left everything as it was. Memory may come from any call that answers a `VaultEnd`, and another one only from
-/// those that name it.
+/// Why a call of a vault left everything as it was, but that names may have come. `Memory` may come from any call that answers a
+/// `VaultEnd`, and another one only from those that name it.
 #[derive(Clone, Copy, Debug, PartialEq, Eq, Error)]
 pub enum VaultEnd {
     /// The class has an attribute, or a group, of this name.
@@ -12,7 +12,7 @@ pub enum VaultEnd {
     /// The class has no attribute of this name.
     #[error("no such attribute")]
     NoAttr,
-    /// A point's number isn't below the number of points.
+    /// A point's number isn't below the number of points, or in `add_vertices` a primitive's below that of primitives.
     #[error("no such point")]
     NoPoint,
     /// The geometry would have more elements, attributes or groups than a geometry may have.
