@@ -5,6 +5,8 @@ pub mod ViewLemmas
 pub mod CallLemmas
 pub mod MadeLemmas
 pub mod GrowLemmas
+pub mod TwoLemmas
+pub mod LoadedLemmas
 pub mod RemadeLemmas
 pub mod AppendLemmas
 pub mod LeftLemmas

@@ -1,6 +1,5 @@
 -- Tables made one after the other beside those of a sheet, let go again for want of memory, or put in their place.
-use Rattle.std.proofs.Common.{◌≡◌, ℕ, ◌^◌, ◌≤◌, List, [], ◌∷◌, ◌++◌, map, replicate, ap, ◌∙◌, arith}
-use Rattle.std.proofs.lemmas.List.{length-map}
+use Rattle.std.proofs.Common.{◌≡◌, List, [], ◌∷◌, ◌++◌, map, replicate, ap, ◌∙◌, arith}
 use Rattle.sop_model.specs.declared.class.Class.{Class}
 use Rattle.sop_model.specs.declared.class.Class.TheVariants.{Detail, Prim, Point, Vertex}
 use Rattle.sop_model.specs.declared.geo.Geo.{Geo}
@@ -10,54 +9,27 @@ use Rattle.sop_model.specs.Rows.{default_row, first_row, picked}
 use Rattle.sop_model.specs.Merge.{row_under}
 use Rattle.sop_rows.specs.Both.{both_sets, row_widened}
 use Rattle.sop_shape.specs.Shapes.{ShapeLists, shape_of}
-use Rattle.sop_pages.specs.Moves.{times}
 use Rattle.sop_cells.specs.declared.place.Place.{Place}
-use Rattle.sop_cells.specs.declared.place.Place.TheVariants.{Own}
-use Rattle.sop_cells.specs.Places.{own}
 use Rattle.sop_cells.specs.Shelves.{ShelfPages, Shifts}
-use Rattle.sop_cells.proofs.PlaceLemmas.{held-append, based-append, own_of, shifts_then, shifts_more}
+use Rattle.sop_cells.proofs.PlaceLemmas.{based-append, shifts_then}
 use Rattle.sop_columns.specs.Names.{NameTable, Grows}
 use Rattle.sop_columns.proofs.NameLemmas.{grows_none, grows_then}
-use Rattle.sop_tables.specs.Tables.{TableLists, places_in, rows, table_room, IsTable, IsHeld, HasRoomFor, IsTableMade, IsNoStep}
+use Rattle.sop_tables.specs.Tables.{TableLists, places_in, rows, IsTable, IsHeld, IsTableMade}
 use Rattle.sop_tables.specs.Changes.{set_after, row_beside, rows_changed, IsOther, Fits, IsSource}
 use Rattle.sop_tables.specs.declared.changed.Change.{Change}
 use Rattle.sop_tables.specs.declared.changed.Change.TheVariants.{Longer, Picked, Appended, Widened}
-use Rattle.sop_tables.proofs.FlatLemmas.{front_held, back_left}
 use Rattle.sop_tables.proofs.KeptLemmas.{frame}
-use Rattle.sop_tables.proofs.MadeLemmas.{times_few, still_held, undone, before_none}
-use Rattle.sop_tables.proofs.RoomLemmas.{table_few}
 use Rattle.sop_tables.proofs.SourceLemmas.{table_stays, rows_stay}
 use Rattle.sop_tables.proofs.StepLemmas.{table_held, made_held}
 use Rattle.sop_tables.proofs.SwapLemmas.{swap_shifts}
-use Rattle.sop_sheets.specs.Sheets.{SheetLists, table_of, places_of, sheet_room, geo_of, Stands, IsSheet, Becomes}
+use Rattle.sop_sheets.specs.Sheets.{SheetLists, table_of, places_of, geo_of, Stands, IsSheet, Becomes}
 use Rattle.sop_sheets.specs.Remade.{change_of, IsChanged, AreChanged, IsRemade}
 use Rattle.sop_sheets.specs.declared.remade.Changes.{Changes}
 use Rattle.sop_sheets.proofs.SheetLemmas.{in_sheet}
 use Rattle.sop_sheets.proofs.MadeLemmas.{made_sheet}
-
--- ROOM
-
--- a table holds a page so often at most
-table_times_few : (id : ℕ) (s : ShelfPages) (n : NameTable) (tb : TableLists) → IsTable s n tb → times id (own (places_in tb)) ≤ table_room
-table_times_few id s n tb is =
-    let ids = own (places_in tb) in
-    let a = times_few id (map Own ids) in
-    let b = ap (times id) (own_of ids) in
-    let c = length-map ids Own in
-    let d = table_few s n tb is in
-    omega arith
+use Rattle.sop_sheets.proofs.TwoLemmas.{first_held, second_held, four_shifts}
 
 -- ONE TABLE BESIDE ANOTHER
-
-pub room_beside : (s a : ShelfPages) (n m : NameTable) (new : TableLists) → IsTableMade s a n m new → HasRoomFor s (2 ^ 36) → HasRoomFor a table_room
-room_beside s a n m new made room = record { each = λ id. let r = room.each id in let c = made.shifts.moves.counts id in let f = table_times_few id a m new made.table in omega arith }
-
--- nothing came after it, and it is let go
-pub one_held : (s a b : ShelfPages) (n m o : NameTable) (new : TableLists) → IsTableMade s a n m new → IsNoStep a b m o → IsHeld b (places_in new)
-one_held s a b n m o new made step = still_held a b [] (places_in new) step.shifts (made_held s a n m new made)
-
-pub one_gone : (s a b t : ShelfPages) (n m o : NameTable) (new : TableLists) → IsTableMade s a n m new → IsNoStep a b m o → Shifts b t (places_in new) [] → IsNoStep s t n o
-one_gone s a b t n m o new made step gone = record { shifts = undone s b t (places_in new) (before_none s a b (places_in new) made.shifts step.shifts) gone; grows = grows_then n m o made.grows step.grows }
 
 module _ (s a : ShelfPages) (n m : NameTable) (tb : TableLists) (change : Change) where
   rows_changed_stay : (come : List Place) → Shifts s a [] come → Grows n m → IsSource s n tb change → rows_changed a m tb change ≡ rows_changed s n tb change
@@ -95,48 +67,6 @@ module _ (s a t : ShelfPages) (n m k : NameTable) (first : TableLists) (change :
     second_is = changed_late s a n m second other t k (places_in new) next made.shifts made.grows is (record { table = then.table; set = set'; rows = row' });
   }
 
--- TWO TABLES BESIDE TWO OTHERS
-
-module _ (s a : ShelfPages) (n m : NameTable) (first : TableLists) (change : Change) (second : TableLists) (other : Change) (new next : TableLists) (are : AreChanged s a n m first change second other new next) where
-  abbrev places : List Place
-  places = places_in new ++ places_in next
-
-  first_held : IsHeld a (places_in new)
-  first_held = table_held a m new are.first_is.table (record { each = λ id. let c = are.shifts.moves.counts id in let d = held-append id (places_in new) (places_in next) in omega arith })
-
-  second_held : IsHeld a (places_in next)
-  second_held = table_held a m next are.second_is.table (record { each = λ id. let c = are.shifts.moves.counts id in let d = held-append id (places_in new) (places_in next) in omega arith })
-
-  both_held : IsHeld a places
-  both_held = record {
-    covered = record { each = λ id. let c = are.shifts.moves.counts id in omega arith };
-    based = based-append a.base (places_in new) (places_in next) first_held.based second_held.based;
-  }
-
-  pub room_behind : HasRoomFor s sheet_room → HasRoomFor a (2 ^ 36)
-  room_behind room = record {
-    each = λ id.
-        let r = room.each id in let c = are.shifts.moves.counts id in let d = held-append id (places_in new) (places_in next) in
-        let f = table_times_few id a m new are.first_is.table in let g = table_times_few id a m next are.second_is.table in omega arith;
-  }
-
-  -- nothing came after them, and both are let go
-  module _ (b : ShelfPages) (o : NameTable) (step : IsNoStep a b m o) where
-    still : IsHeld b places
-    still = still_held a b [] places step.shifts both_held
-
-    pub first_goes : IsHeld b (places_in new)
-    first_goes = front_held b b (places_in new) (places_in next) still
-
-    pub second_goes : (c : ShelfPages) → Shifts b c (places_in new) [] → IsHeld c (places_in next)
-    second_goes c gone = back_left b c (places_in new) (places_in next) still gone
-
-    pub both_gone : (c d : ShelfPages) → Shifts b c (places_in new) [] → Shifts c d (places_in next) [] → IsNoStep s d n o
-    both_gone c d gone then = record {
-      shifts = undone s b d places (before_none s a b places are.shifts step.shifts) (shifts_then b c d (places_in new) (places_in next) [] [] gone then);
-      grows = grows_then n m o are.grows step.grows;
-    }
-
 -- FOUR TABLES
 
 module _ (s a t : ShelfPages) (n m k : NameTable) (old : SheetLists) (changes : Changes) (d p o v : TableLists) (source : (class : Class) → IsSource s n (table_of old class) (change_of changes class))
@@ -146,18 +76,15 @@ module _ (s a t : ShelfPages) (n m k : NameTable) (old : SheetLists) (changes : 
 
   each_remade : (class : Class) → IsChanged s t n k (table_of old class) (change_of changes class) (table_of four class)
   each_remade Detail =
-      changed_stays s a n m old.detail changes.detail t k (places_in o ++ places_in v) d (first_held s a n m old.detail changes.detail old.prim changes.prim d p front) back.shifts back.grows front.first_is
+      changed_stays s a n m old.detail changes.detail t k (places_in o ++ places_in v) d (first_held s a n m d p front.shifts front.grows front.first_is.table front.second_is.table) back.shifts back.grows front.first_is
   each_remade Prim =
-      changed_stays s a n m old.prim changes.prim t k (places_in o ++ places_in v) p (second_held s a n m old.detail changes.detail old.prim changes.prim d p front) back.shifts back.grows front.second_is
+      changed_stays s a n m old.prim changes.prim t k (places_in o ++ places_in v) p (second_held s a n m d p front.shifts front.grows front.first_is.table front.second_is.table) back.shifts back.grows front.second_is
   each_remade Point = changed_late s a n m old.point changes.point t k (places_in d ++ places_in p) o front.shifts front.grows (source Point) back.first_is
   each_remade Vertex = changed_late s a n m old.vertex changes.vertex t k (places_in d ++ places_in p) v front.shifts front.grows (source Vertex) back.second_is
 
   pub four_made : IsRemade s t n k old changes four
   four_made = record {
-    shifts = shifts_more s t [] ((places_in d ++ places_in p) ++ (places_in o ++ places_in v)) [] (places_of four)
-        (shifts_then s a t [] [] (places_in d ++ places_in p) (places_in o ++ places_in v) front.shifts back.shifts) (λ x. omega arith)
-        (λ x. let e = held-append x (places_in d ++ places_in p) (places_in o ++ places_in v) in let f = held-append x (places_in d) (places_in p) in
-        let g = held-append x (places_in d) (places_in p ++ (places_in o ++ places_in v)) in let h = held-append x (places_in p) (places_in o ++ places_in v) in omega arith);
+    shifts = four_shifts s a t four front.shifts back.shifts;
     grows = grows_then n m k front.grows back.grows;
     tables = λ class. (each_remade class).table;
     sets = λ class. (each_remade class).set;

@@ -8,6 +8,7 @@ mod columns;
 mod growing;
 mod heads;
 mod keeping;
+mod loaded;
 mod made;
 mod ordering;
 mod remade;

@@ -1,25 +1,28 @@
 -- The calls of a vault, by what they make of the sheet at one key.
-use Rattle.std.proofs.Common.{◌≡◌, ◌≢◌, ℕ, ◌+◌, ◌^◌, ◌<◌, ◌≤◌, [], ◌∷◌, ◌++◌, length, map, length-append, refl, ap, sym, ◌∙◌, subst, arith, inl, inr}
-use Rattle.std.specs.Prelude.{◌⊎◌, Option, Some, None, option_map, slice_set, IfSome, IsSomeAnd, Result, Ok, Err, OnErr}
+use Rattle.std.proofs.Common.{◌≡◌, ◌≢◌, ℕ, ◌+◌, ◌^◌, ◌<◌, ◌≤◌, List, [], ◌∷◌, ◌++◌, length, map, length-append, refl, ap, sym, ◌∙◌, subst, arith, inl, inr}
+use Rattle.std.specs.Prelude.{◌⊎◌, if◌then◌else◌, nat_lt, Option, Some, None, option_map, slice_set, IfSome, IsSomeAnd, Result, Ok, Err, OnErr}
 use Rattle.std.proofs.Math.ListN.{get_or-map}
 use Rattle.sop_model.specs.declared.geo.Geo.{Geo}
 use Rattle.sop_pages.specs.Pages.{AreCounted, count}
 use Rattle.sop_pages.specs.Moves.{times, Covers}
 use Rattle.sop_pages.proofs.MoveLemmas.{same_or}
 use Rattle.sop_cells.specs.Places.{own}
-use Rattle.sop_cells.specs.Shelves.{ShelfPages, Shifts}
+use Rattle.sop_cells.specs.declared.place.Place.{Place}
+use Rattle.sop_cells.specs.declared.place.Place.TheVariants.{Own, Base}
+use Rattle.sop_cells.specs.Shelves.{ShelfPages, shared, Shifts}
 use Rattle.sop_cells.proofs.PlaceLemmas.{own-append, same_shelf_pages}
 use Rattle.sop_columns.specs.Names.{NameTable, Grows}
 use Rattle.sop_columns.proofs.NameLemmas.{grows_none}
 use Rattle.sop_tables.specs.Tables.{places_in, IsHeld, HasRoom, HasRoomFor, IsNoStep}
 use Rattle.sop_tables.proofs.RoomLemmas.{table_few}
 use Rattle.sop_model.specs.declared.class.Class.TheVariants.{Detail, Prim, Point, Vertex}
-use Rattle.sop_sheets.specs.Sheets.{SheetLists, sheet_room, places_of, geo_of, IsSheet, IsSheetStep, Becomes, Stays}
+use Rattle.sop_model.specs.declared.class.Class.{Class}
+use Rattle.sop_sheets.specs.Sheets.{SheetLists, table_of, sheet_room, places_of, geo_of, IsSheet, IsSheetStep, Becomes, Stays}
 use Rattle.sop_sheets.proofs.SheetLemmas.{sheet_kept}
 use Rattle.sop_sheets.proofs.ViewLemmas.{sheet_held}
 use Rattle.sop_vault.specs.Keyed.{Keyed, at, Changes}
 use Rattle.sop_vault.specs.Counted.{slot_places, IsSlot, all_seen}
-use Rattle.sop_vault.specs.Vaults.{VaultMap, pages_held, vault_of, Counted, Changed, Added, IsAsBefore}
+use Rattle.sop_vault.specs.Vaults.{VaultMap, pages_held, shares_of, vault_of, Counted, Changed, Added, IsAsBefore}
 use Rattle.sop_vault.proofs.KeyedLemmas.{set_here, set_other}
 use Rattle.sop_vault.proofs.StepLemmas.{IsFramed, seen_at, key_covered, key_kept, key_seen, counts_room, times_length, step_counted, step_slots, step_changes}
 
@@ -33,6 +36,31 @@ err_by (Err e) p = p
 
 held_at : (slots : Keyed SheetLists) (k : ℕ) → at (map (option_map pages_held) slots) k ≡ option_map pages_held (at slots k)
 held_at slots k = get_or-map (option_map pages_held) slots k None
+
+-- SHARED PLACES
+
+-- as many of the places are shared, where each page is counted as often
+shared_same : (s t : ShelfPages) → ((id : ℕ) → count t.own id ≡ count s.own id) → (places : List Place) → shared t places ≡ shared s places
+shared_same s t same [] = refl
+shared_same s t same (Own id ∷ places) = let one = same id in let rest = shared_same s t same places in λ j. (if nat_lt 1 (one j) then 1 else 0) + rest j
+shared_same s t same (Base id ∷ places) = ap (λ n. 1 + n) (shared_same s t same places)
+
+shares_same : (s t : ShelfPages) → ((id : ℕ) → count t.own id ≡ count s.own id) → (o : Option SheetLists) → option_map (shares_of t) o ≡ option_map (shares_of s) o
+shares_same s t same None = refl
+shares_same s t same (Some sheet) =
+    let each = λ (class : Class). columns (table_of sheet class).columns in
+    let d = each Detail in let p = each Prim in let o = each Point in let v = each Vertex in
+    λ j. Some (record { detail = d j; prim = p j; point = o j; vertex = v j })
+  where
+    columns : (cs : List (List Place)) → map (shared t) cs ≡ map (shared s) cs
+    columns [] = refl
+    columns (c ∷ cs) = let one = shared_same s t same c in let rest = columns cs in λ j. one j ∷ rest j
+
+-- where names alone came, and the slots are the same
+shares_stay : (s t : ShelfPages) (n m : NameTable) (slots after : Keyed SheetLists) → Shifts s t [] [] → (k : ℕ) → at after k ≡ at slots k → at (vault_of t m after).shares k ≡ at (vault_of s n slots).shares k
+shares_stay s t n m slots after shifts k same =
+    get_or-map (option_map (shares_of t)) after k None ∙ ap (option_map (shares_of t)) same ∙ shares_same s t (λ id. let a = shifts.moves.counts id in omega arith) (at slots k)
+    ∙ sym (get_or-map (option_map (shares_of s)) slots k None)
 
 -- one key has another sheet, or none
 module _ (s t : ShelfPages) (n m : NameTable) (slots after : Keyed SheetLists) (c : Counted s n slots) (key : ℕ) (was now : Option SheetLists) (grows : Grows n m) (at_was : at slots key ≡ was) (at_now : at after key ≡ now)
@@ -134,6 +162,7 @@ module _ (s : ShelfPages) (n : NameTable) (slots : Keyed SheetLists) (c : Counte
         subst (λ (w : VaultMap). IsAsBefore w (vault_of t m after)) same (record {
           geos = λ k. each k (same_key k) changed;
           held = λ k. held_at after k ∙ ap (option_map pages_held) (slot_same k (same_key k) e) ∙ sym (held_at slots k);
+          shares = λ k. shares_stay s t n m slots after st.pages.shifts k (slot_same k (same_key k) e);
           pages = same_shelf_pages s t c.pages counted st.pages.shifts;
           names = st.pages.grows;
         })
@@ -199,6 +228,7 @@ as_before s n slots now v same is =
     record {
       geos = λ k. ap (λ (w : VaultMap). at w.geos k) is_now;
       held = λ k. ap (λ (w : VaultMap). at w.held k) is_now;
+      shares = λ k. ap (λ (w : VaultMap). at w.shares k) is_now;
       pages = ap (λ (w : VaultMap). w.pages) is_now;
       names = subst (λ (m : NameTable). Grows m n) (ap (λ (w : VaultMap). w.names) same) (grows_none n);
     }
@@ -220,6 +250,7 @@ module _ (s t : ShelfPages) (n m : NameTable) (slots : Keyed SheetLists) (c : Co
       subst (λ (w : VaultMap). IsAsBefore w (vault_of t m slots)) same (record {
         geos = λ k. each k (same_or k (length slots)) ch;
         held = λ k. refl;
+        shares = λ k. shares_stay s t n m slots slots idle.shifts k refl;
         pages = same_shelf_pages s t c.pages counted idle.shifts;
         names = idle.grows;
       })
@@ -230,4 +261,4 @@ module _ (s t : ShelfPages) (n m : NameTable) (slots : Keyed SheetLists) (c : Co
 
 -- a vault is as it is
 pub unchanged : (v : VaultMap) → IsAsBefore v v
-unchanged v = record { geos = λ k. refl; held = λ k. refl; pages = refl; names = grows_none v.names }
+unchanged v = record { geos = λ k. refl; held = λ k. refl; shares = λ k. refl; pages = refl; names = grows_none v.names }

@@ -86,9 +86,10 @@ pub record Added (old new : VaultMap) (key : ℕ) (g : Option Geo) : Type 0 wher
   pub held : (other : ℕ) → other ≢ key → at new.held other ≡ at old.held other
   pub names : Grows old.names new.names
 
--- every key stands for what it stood for, and holds the pages that it held; only names may have come
+-- every key stands for what it stood for, and holds the pages that it held, as many of them with others; only names may have come
 pub record IsAsBefore (old new : VaultMap) : Type 0 where
   pub geos : AreSame old.geos new.geos
   pub held : AreSame old.held new.held
+  pub shares : AreSame old.shares new.shares
   pub pages : new.pages ≡ old.pages
   pub names : Grows old.names new.names

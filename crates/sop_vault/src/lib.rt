@@ -9,8 +9,10 @@ mod appending;
 mod columns;
 mod elements;
 mod heads;
+mod loading;
 mod vault;
 mod vault_end;
+mod weight;
 
 pub use vault::{GeoKey, Vault};
 pub use vault_end::VaultEnd;

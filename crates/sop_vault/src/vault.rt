@@ -13,7 +13,7 @@ use crate::vault_end::VaultEnd;
 use slab::Slab;
 use sop_cells::Shelf;
 use sop_columns::Names;
-use sop_model::{Class, Value};
+use sop_model::{Class, GeoView, Value};
 use sop_pages::Cell;
 use sop_sheets::{GeoRef, Sheet};
 use std::alloc::{AllocError, Global};
@@ -89,6 +89,20 @@ impl<'b> Vault<'b> {
     {
         self.sheets.reserve(1)?;
         let made = Sheet::empty(self.alloc, &mut self.shelf, &mut self.names);
+        self.shelf.each_is_counted();
+        let key = self.sheets.insert_reserved(made?);
+        Ok(GeoKey { key })
+    }
+
+    /// A new key of a geometry that is read. `Err` for want of memory: then only names may have come.
+    pub(crate) fn load<V: GeoView>(&mut self, view: &V) -> Result<GeoKey, AllocError>
+        requires readable { IsReadable (V.geo view.now) }
+        requires values { AreValuesWithin (V.geo view.now) }
+        ensures ok { IfOk result (λ new. Added self.old self.new new (Some (V.geo view.now))) }
+        ensures err { OnErr result (IsAsBefore self.old self.new) }
+    {
+        self.sheets.reserve(1)?;
+        let made = Sheet::of_view(self.alloc, view, &mut self.shelf, &mut self.names);
         self.shelf.each_is_counted();
         let key = self.sheets.insert_reserved(made?);
         Ok(GeoKey { key })

@@ -5,7 +5,7 @@ use Rattle.sop_tables.specs.Changes.{ArePicks}
 use Rattle.sop_tables.proofs.BesideLemmas.{less_room}
 use Rattle.sop_sheets.specs.Sheets.{sheet_room}
 use Rattle.sop_sheets.proofs.CallLemmas.{if_ok}
-use Rattle.sop_sheets.proofs.RemadeLemmas.{room_beside}
+use Rattle.sop_sheets.proofs.TwoLemmas.{room_beside}
 use Rattle.sop_sheets.proofs.AddLemmas.{middle_held, middle_goes, passed_made, passed_rows, passed_err}
 use Rattle.sop_sheets.proofs.adding.picked_with_new.Goals as goal
 

@@ -2,7 +2,8 @@ use Rattle.std.proofs.Common.{◌^◌, arith}
 use Rattle.sop_tables.specs.Tables.{table_room}
 use Rattle.sop_tables.proofs.BesideLemmas.{less_room}
 use Rattle.sop_tables.proofs.SourceLemmas.{source_stays}
-use Rattle.sop_sheets.proofs.RemadeLemmas.{room_beside, one_held, one_gone, both_made}
+use Rattle.sop_sheets.proofs.TwoLemmas.{room_beside, one_held, one_gone}
+use Rattle.sop_sheets.proofs.RemadeLemmas.{both_made}
 use Rattle.sop_sheets.proofs.remade.both.Goals as goal
 
 pub changed-requires-clause-room : goal.changed-requires-clause-room

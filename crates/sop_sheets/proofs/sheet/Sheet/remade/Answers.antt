@@ -6,7 +6,8 @@ use Rattle.sop_tables.proofs.SourceLemmas.{source_stays}
 use Rattle.sop_sheets.specs.Sheets.{SheetLists, table_of}
 use Rattle.sop_sheets.specs.Remade.{change_of, IsRemade}
 use Rattle.sop_sheets.specs.contracts.sheet.Sheet.{the_view}
-use Rattle.sop_sheets.proofs.RemadeLemmas.{room_behind, first_goes, second_goes, both_gone, four_made}
+use Rattle.sop_sheets.proofs.TwoLemmas.{room_behind, first_goes, second_goes, both_gone}
+use Rattle.sop_sheets.proofs.RemadeLemmas.{four_made}
 use Rattle.sop_sheets.proofs.sheet.Sheet.remade.Goals as goal
 use Rattle.sop_sheets.proofs.sheet.Sheet.remade.Goals.{After-self}
 
@@ -30,19 +31,19 @@ both-requires-2-clause-second c =
     source_stays c.args.shelf.now c.both.new.shelf c.args.names.now c.both.new.names _ made.shifts made.grows c.self.inside.vertex c.args.changes.vertex (source (goal.at.both-requires-2-clause-second c).After-self Vertex)
 
 pub both-requires-2-clause-room : goal.both-requires-2-clause-room
-both-requires-2-clause-room c = room_behind c.args.shelf.now c.both.new.shelf c.args.names.now c.both.new.names _ _ _ _ _ _ c.in_ok-front.ensures.made c.requires.room
+both-requires-2-clause-room c = room_behind c.args.shelf.now c.both.new.shelf c.args.names.now c.both.new.names _ _ c.in_ok-front.ensures.made.shifts c.in_ok-front.ensures.made.grows c.in_ok-front.ensures.made.first_is.table c.in_ok-front.ensures.made.second_is.table c.requires.room
 
 pub release-requires : goal.release-requires
-release-requires c = record { held = first_goes c.args.shelf.now c.both.new.shelf c.args.names.now c.both.new.names _ _ _ _ _ _ c.in_ok-front.ensures.made c.both-2.new.shelf c.both-2.new.names c.in-Err.ensures.err }
+release-requires c = record { held = first_goes c.args.shelf.now c.both.new.shelf c.args.names.now c.both.new.names _ _ c.in_ok-front.ensures.made.shifts c.in_ok-front.ensures.made.grows c.in_ok-front.ensures.made.first_is.table c.in_ok-front.ensures.made.second_is.table c.both-2.new.shelf c.both-2.new.names c.in-Err.ensures.err }
 
 pub release-requires-in-Err : goal.release-requires-in-Err
 release-requires-in-Err c = record {
-  held = second_goes c.args.shelf.now c.both.new.shelf c.args.names.now c.both.new.names _ _ _ _ _ _ c.in_ok-front.ensures.made c.both-2.new.shelf c.both-2.new.names c.in-Err.ensures.err c.release.new.shelf c.release.ensures.shifts;
+  held = second_goes c.args.shelf.now c.both.new.shelf c.args.names.now c.both.new.names _ _ c.in_ok-front.ensures.made.shifts c.in_ok-front.ensures.made.grows c.in_ok-front.ensures.made.first_is.table c.in_ok-front.ensures.made.second_is.table c.both-2.new.shelf c.both-2.new.names c.in-Err.ensures.err c.release.new.shelf c.release.ensures.shifts;
 }
 
 pub returns-in-Err-clause-err : goal.returns-in-Err-clause-err
 returns-in-Err-clause-err c =
-    both_gone c.args.shelf.now c.both.new.shelf c.args.names.now c.both.new.names _ _ _ _ _ _ c.in_ok-front.ensures.made c.both-2.new.shelf c.both-2.new.names c.in-Err.ensures.err c.release.new.shelf c.release-in-Err.new.shelf c.release.ensures.shifts c.release-in-Err.ensures.shifts
+    both_gone c.args.shelf.now c.both.new.shelf c.args.names.now c.both.new.names _ _ c.in_ok-front.ensures.made.shifts c.in_ok-front.ensures.made.grows c.in_ok-front.ensures.made.first_is.table c.in_ok-front.ensures.made.second_is.table c.both-2.new.shelf c.both-2.new.names c.in-Err.ensures.err c.release.new.shelf c.release-in-Err.new.shelf c.release.ensures.shifts c.release-in-Err.ensures.shifts
 
 pub returns-in-Ok-clause-made : goal.returns-in-Ok-clause-made
 returns-in-Ok-clause-made c =
