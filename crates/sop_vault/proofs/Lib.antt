@@ -5,3 +5,4 @@ pub mod HeadLemmas
 pub mod ShareLemmas
 pub mod ElementLemmas
 pub mod WeightLemmas
+pub mod PageLemmas

@@ -72,6 +72,14 @@ pub record Counted (s : ShelfPages) (n : NameTable) (slots : Keyed SheetLists) :
   pub sheets : AreSlots IsSheet s n slots
   pub pages : AreCounted s.own
 
+-- what some vault stands for
+pub record IsVault (v : VaultMap) : Type 0 where
+  pub shelf : ShelfPages
+  pub names : NameTable
+  pub sheets : Keyed SheetLists
+  pub counted : Counted shelf names sheets
+  pub is : vault_of shelf names sheets ≡ v
+
 -- WHAT CALLS DO
 
 -- one key stands for this now, or for nothing; no other key changed, nor its pages

@@ -7,7 +7,7 @@ ghost use Rattle.sop_model.specs.Rows.{value_set, member_set, HasHead, HasGroup,
 ghost use Rattle.sop_vault.specs.declared.vault_end.VaultEnd.TheVariants.{Memory};
 ghost use Rattle.sop_vault.specs.Keyed.{at, IsLive};
 ghost use Rattle.sop_model.specs.declared.class.Class.{Class};
-ghost use Rattle.sop_vault.specs.Vaults.{share_at, Changed, Added, IsAsBefore};
+ghost use Rattle.sop_vault.specs.Vaults.{share_at, Changed, Added, IsAsBefore, IsVault};
 
 use crate::vault_end::VaultEnd;
 use slab::Slab;
@@ -170,6 +170,14 @@ impl<'b> Vault<'b> {
         ensures { result ≡ self.now.pages }
     {
         self.shelf.pages()
+    }
+
+    /// A law: this is what some vault stands for. So its pages are those that its geometries hold, by the lemma `same_pages` on two vaults.
+    /// The call does nothing.
+    pub fn is_vault(&self)
+        ensures { IsVault self.now }
+    {
+        let _ = &self.shelf;
     }
 
     /// Makes `value` the value of an element under the attribute with the number `head`, both from 0. `Memory` leaves all as it was, but
