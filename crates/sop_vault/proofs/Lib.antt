@@ -6,3 +6,4 @@ pub mod ShareLemmas
 pub mod ElementLemmas
 pub mod WeightLemmas
 pub mod PageLemmas
+pub mod PassLemmas

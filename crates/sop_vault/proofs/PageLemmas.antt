@@ -34,9 +34,20 @@ none_held s n slots k none = get_or-map (option_map pages_held) slots k None ∙
     by None e = refl
     by (Some sheet) e = cc
 
-some_or_none : (o : Option Geo) → (IsSome o) ⊎ (o ≡ None)
+pub some_or_none : (o : Option Geo) → (IsSome o) ⊎ (o ≡ None)
 some_or_none None = inr refl
 some_or_none (Some g) = inl refl
+
+none_in : (x : VaultMap) → IsVault x → (k : ℕ) → at x.geos k ≡ None → at x.held k ≡ None
+none_in x p k none = subst (λ (y : VaultMap). at y.held k ≡ None) p.is (none_held p.shelf p.names p.sheets k (ap (λ (y : VaultMap). at y.geos k) p.is ∙ none))
+
+-- a key that stands for the same holds the same, if it does where something stands
+pub held_alike : (v w : VaultMap) → IsVault v → IsVault w → (k : ℕ) → at w.geos k ≡ at v.geos k → (IsLive v.geos k → at w.held k ≡ at v.held k) → at w.held k ≡ at v.held k
+held_alike v w is now k same held = by (some_or_none (at v.geos k))
+  where
+    by : (IsSome (at v.geos k)) ⊎ (at v.geos k ≡ None) → at w.held k ≡ at v.held k
+    by (inl live) = held live
+    by (inr none) = none_in w now k (same ∙ none) ∙ sym (none_in v is k none)
 
 -- two vaults whose geometries hold the same pages have as many
 pub same_pages : (v w : VaultMap) → IsVault v → IsVault w → AreSame v.geos w.geos → ((k : ℕ) → IsLive v.geos k → at w.held k ≡ at v.held k) → w.pages ≡ v.pages
@@ -46,13 +57,5 @@ same_pages v w is now geos held =
     ∙ ap (λ (x : VaultMap). total (held_times id) x.held) (sym is.is) ∙ sym (total_held id is.sheets) ∙ sym (is.counted.counts id)) in
     sym (ap (λ (x : VaultMap). x.pages) now.is) ∙ pages ∙ ap (λ (x : VaultMap). x.pages) is.is
   where
-    none_in : (x : VaultMap) → IsVault x → (k : ℕ) → at x.geos k ≡ None → at x.held k ≡ None
-    none_in x p k none =
-        subst (λ (y : VaultMap). at y.held k ≡ None) p.is (none_held p.shelf p.names p.sheets k (ap (λ (y : VaultMap). at y.geos k) p.is ∙ none))
-
-    held_here : (k : ℕ) → (IsSome (at v.geos k)) ⊎ (at v.geos k ≡ None) → at w.held k ≡ at v.held k
-    held_here k (inl live) = held k live
-    held_here k (inr none) = none_in w now k (geos k ∙ none) ∙ sym (none_in v is k none)
-
     all_held : (k : ℕ) → at w.held k ≡ at v.held k
-    all_held k = held_here k (some_or_none (at v.geos k))
+    all_held k = held_alike v w is now k (geos k) (held k)

@@ -101,3 +101,10 @@ pub record IsAsBefore (old new : VaultMap) : Type 0 where
   pub shares : AreSame old.shares new.shares
   pub pages : new.pages ≡ old.pages
   pub names : Grows old.names new.names
+
+-- the same of a run of calls: every key stands for what it stood for, and holds the pages that it held; only names may have come
+pub record HoldsAsBefore (old new : VaultMap) : Type 0 where
+  pub geos : AreSame old.geos new.geos
+  pub held : AreSame old.held new.held
+  pub pages : new.pages ≡ old.pages
+  pub names : Grows old.names new.names
