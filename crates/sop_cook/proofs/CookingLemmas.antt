@@ -1,5 +1,5 @@
 -- A cook that goes on.
-use Rattle.std.proofs.Common.{◌≡◌, ℕ, zero, suc, ◌<◌, List, [], ◌∷◌, length, get_or, refl, sym, ◌∙◌, ap, subst, arith}
+use Rattle.std.proofs.Common.{◌≡◌, ℕ, zero, suc, ◌<◌, ◌≤◌, List, [], ◌∷◌, length, get_or, refl, sym, ◌∙◌, ap, subst, arith}
 use Rattle.std.specs.Prelude.{Option, None, Some, IfSome, Contains, option_map}
 use Rattle.sop_net.specs.Network.{node_of, wired, wire_at, used_wires, used_sources}
 use Rattle.sop_net.specs.Sockets.{Socket, sockets_of}
@@ -10,7 +10,11 @@ use Rattle.sop_cook.specs.Loads.{file_in}
 use Rattle.sop_cook.specs.Visit.{Outcome}
 use Rattle.sop_cook.specs.SerialCook.{cook_of}
 use Rattle.sop_cook.specs.Parts.{IsKept}
-use Rattle.sop_cook.specs.Cooking.{nodes_of, gives, IsRunning, RunsOn}
+use Rattle.sop_pages.specs.Moves.{times}
+use Rattle.sop_vault.specs.Keyed.{at}
+use Rattle.sop_vault.specs.Vaults.{VaultMap}
+use Rattle.sop_cook.specs.Cooking.{nodes_of, keys_of, gives, IsRunning, RunsOn}
+use Rattle.sop_cook.proofs.KeptLemmas.{kept_stays}
 
 pub same_gives : (a b : Cooking) → b.net.now ≡ a.net.now → b.loaded.now ≡ a.loaded.now → ◌≡◌ {A = ℕ → Outcome} (gives b) (gives a)
 same_gives a b net loaded =
@@ -20,20 +24,24 @@ pub same_nodes : (a b : Cooking) → b.net.now ≡ a.net.now → nodes_of b ≡ 
 same_nodes a b net = ap (λ n. n.nodes) net
 
 -- only what is kept changes
-pub runs_with : (a b : Cooking) → b.net.now ≡ a.net.now → b.loaded.now ≡ a.loaded.now → IsKept (gives a) (nodes_of a) b.kept → RunsOn a b
-runs_with a b net loaded kept = record {
+pub runs_with : (v : VaultMap) (a b : Cooking) → b.net.now ≡ a.net.now → b.loaded.now ≡ a.loaded.now → IsKept v (gives a) (nodes_of a) b.kept → RunsOn a v b
+runs_with v a b net loaded kept = record {
   net = net;
   loaded = loaded;
   running =
-      subst (λ (go : ℕ → Outcome). IsKept go (nodes_of b) b.kept) (sym (same_gives a b net loaded))
-      (subst (λ nodes. IsKept (gives a) nodes b.kept) (sym (same_nodes a b net)) kept);
+      subst (λ (go : ℕ → Outcome). IsKept v go (nodes_of b) b.kept) (sym (same_gives a b net loaded))
+      (subst (λ nodes. IsKept v (gives a) nodes b.kept) (sym (same_nodes a b net)) kept);
 }
 
-pub stays : (a : Cooking) → IsRunning a → RunsOn a a
-stays a running = record { net = refl; loaded = refl; running = running }
+pub stays : (v : VaultMap) (a : Cooking) → IsRunning v a → RunsOn a v a
+stays v a running = record { net = refl; loaded = refl; running = running }
 
-pub went_on : (a b c : Cooking) → RunsOn a b → RunsOn b c → RunsOn a c
-went_on a b c first then = record { net = then.net ∙ first.net; loaded = then.loaded ∙ first.loaded; running = then.running }
+pub went_on : (a b : Cooking) (v : VaultMap) (c : Cooking) (w : VaultMap) → RunsOn a v b → RunsOn b w c → RunsOn a w c
+went_on a b v c w first then = record { net = then.net ∙ first.net; loaded = then.loaded ∙ first.loaded; running = then.running }
+
+-- what stands at its keys stays
+pub runs_still : (a b : Cooking) (v w : VaultMap) → RunsOn a v b → ((k : ℕ) → 1 ≤ times k (keys_of b) → at w.geos k ≡ at v.geos k) → RunsOn a w b
+runs_still a b v w on same = record { net = on.net; loaded = on.loaded; running = kept_stays v w (gives b) (nodes_of b) b.kept on.running same }
 
 -- what holds of a node's sockets
 pub sockets_known : (P : List Socket → Type 0) (found : Option Node) (sockets : List Socket) → option_map sockets_of found ≡ Some sockets → P sockets → IfSome found (λ n. P (sockets_of n))

@@ -6,5 +6,7 @@ pub mod MergeLemmas
 pub mod ReadyLemmas
 pub mod MergeSteps
 pub mod KeptLemmas
+pub mod MergeCalls
 pub mod CookLemmas
 pub mod CookingLemmas
+pub mod HandLemmas

@@ -1,36 +1,59 @@
 -- The merge of geometries so far, and when it has too many elements.
-use Rattle.std.proofs.Common.{◌≡◌, Bool, true, false, ℕ, ◌+◌, ◌<◌, ◌≤◌, List, [], ◌∷◌, ◌++◌, length, take, drop, get_or, refl, sym, ◌∙◌, ap, subst, arith, if◌then◌else◌}
-use Rattle.std.specs.Prelude.{Option, Some, Result, Ok, Err, IfSome, IfErr, OnOk, option_to_list}
-use Rattle.std.proofs.lemmas.List.{append-nil, drop_more, take-append-drop}
+use Rattle.std.proofs.Common.{◌≡◌, Bool, true, false, ◌+◌, List, [], ◌∷◌, ◌++◌, refl, sym, ◌∙◌, ap, subst, arith, if◌then◌else◌}
+use Rattle.std.specs.Prelude.{All, Option, Ok, Err, option_to_list}
+use Rattle.std.proofs.lemmas.List.{append-nil}
+use Rattle.std.proofs.lemmas.List.Sums.{fold_push}
 use Rattle.std.proofs.lemmas.List.Concat.{flat_map-append}
-use Rattle.std.proofs.lemmas.List.Elements.{All-nil, All-cons, All-append}
-use Rattle.std.proofs.lemmas.Grind.{common_steps}
+use Rattle.std.proofs.lemmas.List.Elements.{All-nil, All-cons, All-append, All-weaker}
 use Rattle.sop_model.specs.declared.geo.Geo.{Geo}
 use Rattle.sop_model.specs.declared.fault.Fault as fault
 use Rattle.sop_model.specs.declared.fault.Fault.TheVariants as variant
-use Rattle.sop_model.specs.declared.fault.CookStop.{CookStop}
-use Rattle.sop_model.specs.declared.fault.CookStop.TheVariants as stop
-use Rattle.sop_model.specs.Vertices.{corners_of}
-use Rattle.sop_model.specs.Geometry.{fits}
+use Rattle.sop_model.specs.Geometry.{empty_geo, fits, IsSound, IsWithin}
 use Rattle.sop_model.specs.Merge.{merged}
+use Rattle.sop_model.specs.Appending.{appended}
 use Rattle.sop_model.specs.Plain.{IsPlain, plain_append}
-use Rattle.sop_model.proofs.PlainMerge.{merged-push}
-use Rattle.sop_model.specs.Limits.{most_points, most_prims, most_vertices}
+use Rattle.sop_model.proofs.PlainMerge.{merged-push, IsPlain-append}
+use Rattle.sop_model.proofs.PlainLimits.{IsWithin-from_only, Fits-from_plain}
 use Rattle.sop_model.proofs.LimitsLemmas.{fits-true, Fits-from_fits, fits_within, within_points, within_prims, within_vertices}
+use Rattle.sop_rows.proofs.LawLemmas.{merges_in_turn, leave_good}
 use Rattle.sop_cook.specs.Made.{given, merge_geo}
 use Rattle.sop_cook.specs.Ends.{IsReady}
-use Rattle.sop_cook.specs.Parts.{TellsMade, Merged, is_over_limits, are_over}
+use Rattle.sop_cook.specs.Parts.{Merged}
 use Rattle.sop_cook.proofs.MergeLemmas.{points_in, prims_in, vertices_in, length-merged_points, length-merged_prims, length-merged_corners}
-use Rattle.sop_cook.proofs.ReadyLemmas.{IsPlain-from_ready}
+use Rattle.sop_cook.proofs.ReadyLemmas.{IsPlain-from_ready, IsReady-empty_geo}
 
-pub merged_more : (gs : List Geo) (into now geo : Geo) → Merged gs into → IsReady geo → now ≡ plain_append into geo → IsReady now → Merged (gs ++ geo ∷ []) now
-merged_more gs into now geo m ready is fine =
-    let plain = IsPlain-from_ready geo ready in
-    record {
-      merge = merged-push gs geo m.plain plain ∙ ap (λ a. plain_append a geo) m.merge ∙ sym is;
-      plain = All-append IsPlain gs (geo ∷ []) m.plain (All-cons IsPlain geo [] plain (All-nil IsPlain));
-      ready = fine;
-    }
+-- before any input
+pub merged_none : Merged [] empty_geo
+merged_none = record { merge = refl; inputs = All-nil IsReady; ready = IsReady-empty_geo }
+
+all_sound : (gs : List Geo) → All IsReady gs → All IsSound gs
+all_sound gs all = All-weaker IsReady IsSound (λ g r. r.good.sound) gs all
+
+all_plain : (gs : List Geo) → All IsReady gs → All IsPlain gs
+all_plain gs all = All-weaker IsReady IsPlain IsPlain-from_ready gs all
+
+all_more : (gs : List Geo) (g : Geo) → All IsReady gs → IsReady g → All IsReady (gs ++ g ∷ [])
+all_more gs g all r = All-append IsReady gs (g ∷ []) all (All-cons IsReady g [] r (All-nil IsReady))
+
+-- one more behind the merge so far is the merge with it
+more : (gs : List Geo) (into g : Geo) → Merged gs into → IsReady g → merged (gs ++ g ∷ []) ≡ appended into g
+more gs into g m r =
+    merges_in_turn (gs ++ g ∷ []) (all_sound (gs ++ g ∷ []) (all_more gs g m.inputs r)) ∙ fold_push appended empty_geo gs g ∙ ap (λ (a : Geo). appended a g) (sym (merges_in_turn gs (all_sound gs m.inputs)) ∙ m.merge)
+
+plain_more : (gs : List Geo) (into g : Geo) → Merged gs into → IsReady g → IsPlain (appended into g)
+plain_more gs into g m r =
+    subst IsPlain (sym (merged-push gs g (all_plain gs m.inputs) (IsPlain-from_ready g r)) ∙ more gs into g m r)
+    (subst (λ (a : Geo). IsPlain (plain_append a g)) (sym m.merge) (IsPlain-append into g (IsPlain-from_ready into m.ready) (IsPlain-from_ready g r)))
+
+pub merged_more : (gs : List Geo) (into now g : Geo) → Merged gs into → IsReady g → now ≡ appended into g → IsWithin now → Merged (gs ++ g ∷ []) now
+merged_more gs into now g m r is within =
+    let plain = plain_more gs into g m r in
+    let ready : IsReady (appended into g) = record {
+      good = leave_good.append into g m.ready.good r.good;
+      fits = Fits-from_plain (appended into g) plain (subst IsWithin is within);
+      position = plain.only;
+    } in
+    record { merge = more gs into g m r ∙ sym is; inputs = all_more gs g m.inputs r; ready = subst IsReady (sym is) ready }
 
 -- all were merged
 pub merged_all : (gs : List Geo) (into : Geo) → Merged gs into → merge_geo gs ≡ Ok into
@@ -50,56 +73,29 @@ vertices_in-append : (gs hs : List Geo) → vertices_in (gs ++ hs) ≡ vertices_
 vertices_in-append [] hs = omega arith
 vertices_in-append (g ∷ gs) hs = let rest = vertices_in-append gs hs in omega (arith, rest)
 
-over_more : (p q v points prims vertices : ℕ) → p ≤ points → q ≤ prims → v ≤ vertices → is_over_limits p q v ≡ true → is_over_limits points prims vertices ≡ true
-over_more p q v points prims vertices hp hq hv over = grind (arith, common_steps)
-
-not_over : (points prims vertices : ℕ) → points ≤ most_points → prims ≤ most_prims → vertices ≤ most_vertices → is_over_limits points prims vertices ≡ true → ⊥
-not_over points prims vertices p q v over = grind (arith, common_steps)
-
-unfit : (g : Geo) → is_over_limits (length g.points) (length g.prims) (length (corners_of g.prims)) ≡ true → fits g ≡ false
-unfit g over = by (fits g) refl
+-- where the next geometry passes a limit, the whole merge does
+over_merge : (gs hs : List Geo) (g into : Geo) → Merged gs into → IsReady g → (IsWithin (appended into g) → ⊥) → fits (merged (gs ++ g ∷ hs)) ≡ false
+over_merge gs hs g into m r over = by (fits (merged (gs ++ g ∷ hs))) refl
   where
-    by : (b : Bool) → fits g ≡ b → b ≡ false
+    by : (b : Bool) → fits (merged (gs ++ g ∷ hs)) ≡ b → b ≡ false
     by false is = refl
     by true is =
-        let within = fits_within (Fits-from_fits g is) in
-        let points = within_points within in
-        let prims = within_prims within in
-        let vertices = within_vertices within in
-        absurd (not_over (length g.points) (length g.prims) (length (corners_of g.prims)) points prims vertices over)
+        let all = merged (gs ++ g ∷ hs) in
+        let within = fits_within (Fits-from_fits all is) in
+        let part = merged (gs ++ g ∷ []) in
+        let points = length-merged_points (gs ++ g ∷ hs) ∙ points_in-append gs (g ∷ hs) in
+        let prims = length-merged_prims (gs ++ g ∷ hs) ∙ prims_in-append gs (g ∷ hs) in
+        let corners = length-merged_corners (gs ++ g ∷ hs) ∙ vertices_in-append gs (g ∷ hs) in
+        let own_points = length-merged_points (gs ++ g ∷ []) ∙ points_in-append gs (g ∷ []) in
+        let own_prims = length-merged_prims (gs ++ g ∷ []) ∙ prims_in-append gs (g ∷ []) in
+        let own_corners = length-merged_corners (gs ++ g ∷ []) ∙ vertices_in-append gs (g ∷ []) in
+        let most_points = within_points within in let most_prims = within_prims within in let most_vertices = within_vertices within in
+        let same = more gs into g m r in
+        let plain = subst IsPlain (sym same) (plain_more gs into g m r) in
+        absurd (over (subst IsWithin same (IsWithin-from_only part plain.only (omega arith) (omega arith) (omega arith))))
 
--- where the next geometry has too many elements, the whole merge has
-over_merge : (gs hs : List Geo) (g into : Geo) → merged gs ≡ into → are_over into g ≡ true → fits (merged (gs ++ g ∷ hs)) ≡ false
-over_merge gs hs g into is over =
-    let points = length-merged_points (gs ++ g ∷ hs) ∙ points_in-append gs (g ∷ hs) in
-    let prims = length-merged_prims (gs ++ g ∷ hs) ∙ prims_in-append gs (g ∷ hs) in
-    let corners = length-merged_corners (gs ++ g ∷ hs) ∙ vertices_in-append gs (g ∷ hs) in
-    let own_points = sym (ap (λ (a : Geo). length a.points) is) ∙ length-merged_points gs in
-    let own_prims = sym (ap (λ (a : Geo). length a.prims) is) ∙ length-merged_prims gs in
-    let own_corners = sym (ap (λ (a : Geo). length (corners_of a.prims)) is) ∙ length-merged_corners gs in
-    unfit (merged (gs ++ g ∷ hs))
-    (over_more (length into.points + length g.points) (length into.prims + length g.prims) (length (corners_of into.prims) + length (corners_of g.prims))
-    (length (merged (gs ++ g ∷ hs)).points) (length (merged (gs ++ g ∷ hs)).prims) (length (corners_of (merged (gs ++ g ∷ hs)).prims))
-    (omega (arith, points, own_points)) (omega (arith, prims, own_prims)) (omega (arith, corners, own_corners)) over)
-
-pub merged_over : (gs hs : List Geo) (g into : Geo) (f : fault.Fault) → Merged gs into → f ≡ variant.Limit → are_over into g ≡ true → merge_geo (gs ++ g ∷ hs) ≡ Err f
-merged_over gs hs g into f m limit over = ap (λ b. if b then Ok (merged (gs ++ g ∷ hs)) else Err variant.Limit) (over_merge gs hs g into m.merge over) ∙ ap Err (sym limit)
-
--- an input more was appended
-pub appended : {A : Type 0} (r : Result A CookStop) (into now geo : Geo) (input : Option Geo) → input ≡ Some geo → IfSome input IsReady → OnOk r (now ≡ plain_append into geo) → OnOk r (IsReady now)
-    → OnOk r ((gs : List Geo) → Merged gs into → Merged (gs ++ option_to_list input) now)
-appended {A} (Ok done) into now geo input some ready is fine =
-    subst (λ i. (gs : List Geo) → Merged gs into → Merged (gs ++ option_to_list i) now) (sym some) (λ gs m. merged_more gs into now geo m (subst (λ i. IfSome i IsReady) some ready) is fine)
-appended {A} (Err stop) into now geo input some ready is fine = tt
-
--- an input more has too many elements
-pub unappended : {A : Type 0} (r : Result A CookStop) (into geo : Geo) (input : Option Geo) → input ≡ Some geo → ((f : fault.Fault) → r ≡ Err (stop.Fault f) → (f ≡ variant.Limit) × (are_over into geo ≡ true))
-    → IfErr r (λ end. (gs hs : List Geo) → Merged gs into → TellsMade (merge_geo (gs ++ (option_to_list input ++ hs))) (Err end))
-unappended {A} (Ok done) into geo input some over = tt
-unappended {A} (Err (stop.Fault f)) into geo input some over =
-    subst (λ i. (gs hs : List Geo) → Merged gs into → TellsMade (merge_geo (gs ++ (option_to_list i ++ hs))) (Err (stop.Fault f))) (sym some)
-    (λ gs hs m. merged_over gs hs geo into f m (over f refl).0 (over f refl).1)
-unappended {A} (Err stop.Memory) into geo input some over = λ gs hs m. tt
+pub merged_over : (gs hs : List Geo) (g into : Geo) (f : fault.Fault) → Merged gs into → IsReady g → f ≡ variant.Limit → (IsWithin (appended into g) → ⊥) → merge_geo (gs ++ g ∷ hs) ≡ Err f
+merged_over gs hs g into f m r limit over = ap (λ b. if b then Ok (merged (gs ++ g ∷ hs)) else Err variant.Limit) (over_merge gs hs g into m r over) ∙ ap Err (sym limit)
 
 -- the inputs that are given, where one more is
 pub given-push : (inputs : List (Option Geo)) (input : Option Geo) → given (inputs ++ input ∷ []) ≡ given inputs ++ option_to_list input
@@ -107,9 +103,3 @@ given-push inputs input = flat_map-append option_to_list inputs (input ∷ []) �
 
 pub given-split : (inputs rest : List (Option Geo)) (input : Option Geo) → given (inputs ++ input ∷ rest) ≡ given inputs ++ (option_to_list input ++ given rest)
 given-split inputs rest input = flat_map-append option_to_list inputs (input ∷ rest)
-
--- a list, at an item
-pub split_at : {X : Type 0} (all so_far : List X) (x : X) → so_far ≡ take (length so_far) all → length so_far < length all → x ≡ get_or all (length so_far) x → all ≡ so_far ++ x ∷ drop (length so_far + 1) all
-split_at all so_far x is lt here =
-    sym (take-append-drop (length so_far) all) ∙ ap (λ l. l ++ drop (length so_far) all) (sym is)
-    ∙ ap (λ l. so_far ++ l) (drop_more all (length so_far) x lt) ∙ ap (λ y. so_far ++ y ∷ drop (length so_far + 1) all) (sym here)

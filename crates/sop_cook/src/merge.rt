@@ -1,100 +1,102 @@
-//! The merge of geometries that have the attribute `P` alone.
-ghost use Rattle.std.specs.Prelude.{◌≡◌, ◌<◌, ◌+◌, ◌++◌, ◌^◌, List, Err, IfErr, IfOk, IfSome, OnOk, All, map, true, option_to_list};
-ghost use Rattle.sop_model.specs.Geometry.{IsReadable};
-ghost use Rattle.sop_model.specs.declared.fault.Fault.{Fault};
+//! The merge of geometries.
+ghost use Rattle.std.specs.Prelude.{◌≡◌, ◌≢◌, ◌⊎◌, List, [], ◌∷◌, ◌++◌, All, Err, IfOk, IfSome, IfErr, OnOk, IsSomeAnd, option_map, option_to_list};
 ghost use Rattle.sop_model.specs.declared.geo.Geo.{Geo};
-ghost use Rattle.sop_cook.specs.Ends.{IsReady};
-ghost use Rattle.sop_cook.specs.Parts.{Merged, TellsMade, are_over};
+ghost use Rattle.sop_model.specs.Geometry.{empty_geo, IsWithin};
+ghost use Rattle.sop_model.specs.Appending.{appended};
+ghost use Rattle.sop_vault.specs.Keyed.{at, IsLive};
+ghost use Rattle.sop_vault.specs.Passing.{Passes, Owns};
+ghost use Rattle.sop_vault.specs.declared.vault_end.VaultEnd.TheVariants.{Limit, Memory};
+ghost use Rattle.sop_cook.specs.Ends.{geo_at, seen};
+ghost use Rattle.sop_cook.specs.Keys.{inputs_seen, key_of, IsReadyAt};
+ghost use Rattle.sop_cook.specs.Parts.{Merged, TellsMade, TellsDone, IsStopOf, IsAppendStop};
 ghost use Rattle.sop_cook.specs.Made.{given, merge_geo};
-ghost use Rattle.sop_model.specs.Plain.{plain_append, shifted_corner, shifted_prim};
 
-use sop_model::limits::{MOST_POINTS, MOST_PRIMS, MOST_VERTICES};
-use sop_model::{Class, CookStop, CornerList, Fault, Geo, GeoView, Prim, PrimList};
-use std::alloc::{AllocError, Global};
+use sop_model::{CookStop, Fault};
+use sop_vault::{GeoKey, Vault, VaultEnd};
 
-/// The merge of the inputs that are wired, in order.
-pub fn merge(alloc: Global, inputs: Vec<Option<Geo>>) -> Result<Geo, CookStop>
-    requires { All (λ input. IfSome input IsReady) inputs.items }
-    ensures tells { TellsMade (merge_geo (given inputs.items)) result }
-    ensures ready { IfOk result IsReady }
+/// A new key of the merge of the inputs that are wired, in order.
+pub fn merge(inputs: &[Option<GeoKey>], vault: &mut Vault<'_>) -> Result<GeoKey, CookStop>
+    requires { All (λ input. IfSome input (IsReadyAt vault.old)) inputs.now }
+    ensures tells { TellsMade (merge_geo (given (inputs_seen vault.old inputs.now))) (seen vault.new result) }
+    ensures ready { IfOk result (IsReadyAt vault.new) }
+    ensures passes { Passes vault.old [] vault.new (key_of result) }
+    ensures owns { Owns vault.new (key_of result) }
 {
-    let mut into = Geo::empty(alloc)?;
+    let into = vault.empty()?;
+    match append_all(into, inputs, vault) {
+        Ok(()) => Ok(into),
+        Err(stop) => {
+            vault.drop_geo(into);
+            Err(stop)
+        }
+    }
+}
+
+/// Puts the inputs that are wired behind the empty geometry, in order.
+fn append_all(
+    into: GeoKey,
+    inputs: &[Option<GeoKey>],
+    vault: &mut Vault<'_>,
+) -> Result<(), CookStop>
+    requires into { IsSomeAnd (at vault.old.geos into) (λ g. g ≡ empty_geo) }
+    requires inputs { All (λ input. IfSome input (λ key. (key ≢ into) × IsReadyAt vault.old key)) inputs.now }
+    ensures tells { TellsDone (merge_geo (given (inputs_seen vault.old inputs.now))) (geo_at vault.new into) result }
+    ensures ready { OnOk result (IsReadyAt vault.new into) }
+    ensures passes { Passes vault.old (into ∷ []) vault.new (into ∷ []) }
+    ensures owns { Owns vault.new (into ∷ []) }
+{
     for input in inputs {
-        match append_input(&mut into, input) {
+        match append_input(into, *input, vault) {
             Ok(()) => {}
             Err(stop) => return Err(stop),
         }
     }
-    Ok(into)
+    Ok(())
 }
 
 /// Puts an input behind the merge of those before it. One that isn't wired adds nothing.
-fn append_input(into: &mut Geo, input: Option<Geo>) -> Result<(), CookStop>
-    requires into { IsReady into.old }
-    requires input { IfSome input IsReady }
-    ensures ok { OnOk result ((gs : List Geo) → Merged gs into.old → Merged (gs ++ option_to_list input) into.new) }
-    ensures err { IfErr result (λ stop. (gs hs : List Geo) → Merged gs into.old → TellsMade (merge_geo (gs ++ (option_to_list input ++ hs))) (Err stop)) }
+fn append_input(into: GeoKey, input: Option<GeoKey>, vault: &mut Vault<'_>) -> Result<(), CookStop>
+    requires into { IsReadyAt vault.old into }
+    requires input { IfSome input (λ key. (key ≢ into) × IsReadyAt vault.old key) }
+    ensures ok { OnOk result ((gs : List Geo) → Merged gs (geo_at vault.old into) → Merged (gs ++ option_to_list (option_map (geo_at vault.old) input)) (geo_at vault.new into)) }
+    ensures err { IfErr result (λ stop. (gs hs : List Geo) → Merged gs (geo_at vault.old into)
+        → TellsMade (merge_geo (gs ++ (option_to_list (option_map (geo_at vault.old) input) ++ hs))) (Err stop)) }
+    ensures live { IsLive vault.new.geos into }
+    ensures passes { Passes vault.old (into ∷ []) vault.new (into ∷ []) }
 {
     match input {
-        Some(geo) => append(into, geo),
+        Some(from) => append(into, from, vault),
         None => Ok(()),
     }
 }
 
-/// Puts a geometry behind another, unless they have more elements than a geometry may have.
-fn append(into: &mut Geo, from: Geo) -> Result<(), CookStop>
-    requires into { IsReady into.old }
-    requires from { IsReady from }
-    ensures ok { OnOk result (into.new ≡ plain_append into.old from) }
-    ensures ready { OnOk result (IsReady into.new) }
-    ensures over { (fault : Fault) → result ≡ Err (CookStop.Fault fault) → (fault ≡ Fault.Limit) × (are_over into.old from ≡ true) }
+/// Puts a geometry behind another.
+fn append(into: GeoKey, from: GeoKey, vault: &mut Vault<'_>) -> Result<(), CookStop>
+    requires into { IsReadyAt vault.old into }
+    requires from { IsReadyAt vault.old from }
+    ensures ok { OnOk result (geo_at vault.new into ≡ appended (geo_at vault.old into) (geo_at vault.old from)) }
+    ensures within { OnOk result (IsWithin (geo_at vault.new into)) }
+    ensures err { IfErr result (IsAppendStop (geo_at vault.old into) (geo_at vault.old from)) }
+    ensures live { IsLive vault.new.geos into }
+    ensures passes { Passes vault.old (into ∷ []) vault.new (into ∷ []) }
 {
-    if is_over(into, &from) {
-        return Err(CookStop::Fault(Fault::Limit));
+    match vault.append(into, from) {
+        Ok(()) => {
+            vault.is_vault();
+            Ok(())
+        }
+        Err(end) => Err(stop_of(end)),
     }
-    let before = into.count(Class::Point);
-    let mut points = from.points;
-    into.points.append(&mut points)?;
-    append_prims(&mut into.prims, from.prims, before)?;
-    Ok(())
 }
 
-/// Whether the merge of two geometries has more elements than a geometry may have.
-fn is_over(into: &Geo, from: &Geo) -> bool
-    requires into { IsReadable into.now }
-    requires from { IsReadable from.now }
-    ensures { result ≡ are_over into.now from.now }
+/// Why a call of a vault stops a cook.
+pub fn stop_of(end: VaultEnd) -> CookStop
+    requires { (end ≡ Limit) ⊎ (end ≡ Memory) }
+    ensures { IsStopOf end result }
 {
-    let count = |class| into.count(class) as usize + from.count(class) as usize;
-    count(Class::Point) > MOST_POINTS
-        || count(Class::Prim) > MOST_PRIMS
-        || count(Class::Vertex) > MOST_VERTICES
-}
-
-/// Puts primitives behind others, each of whose points stands behind so many others.
-fn append_prims(into: &mut PrimList, from: PrimList, before: u32) -> Result<(), AllocError>
-    requires { All (λ p. All (λ c. before + c.point < 2 ^ 32) p.corners) from }
-    ensures { OnOk result (into.new ≡ into.old ++ map (shifted_prim before) from) }
-{
-    for prim in from.into_vec() {
-        let shifted = Prim {
-            closed: prim.closed,
-            row: prim.row,
-            corners: shift_corners(prim.corners, before),
-        };
-        into.push(shifted).map_err(|refused| refused.1)?;
+    match end {
+        VaultEnd::Limit => CookStop::Fault(Fault::Limit),
+        VaultEnd::Memory => CookStop::Memory,
+        VaultEnd::Exists | VaultEnd::NoAttr | VaultEnd::NoPoint => unreachable!(),
     }
-    Ok(())
-}
-
-/// The vertices, with each point behind so many others.
-fn shift_corners(corners: CornerList, before: u32) -> CornerList
-    requires { All (λ c. before + c.point < 2 ^ 32) corners }
-    ensures { result ≡ map (shifted_corner before) corners }
-{
-    let mut corners = corners.into_vec();
-    for corner in corners.iter_mut() {
-        corner.point += before;
-    }
-    CornerList::from_vec(corners)
 }

@@ -3,6 +3,7 @@ use super::*;
 use geo_text::write_obj;
 use sop_net::{Net, NetEnd};
 use sop_outside::ByteList;
+use sop_vault::Vault;
 use std::alloc::{AllocError, Global};
 use std::test::Fail;
 
@@ -44,8 +45,9 @@ fn cooked(alloc: Global, net: &Net, name: &str, loaded: &Loaded) -> Result<Vec<u
     let Some(node) = net.find(name) else {
         return Ok(Vec::new(alloc));
     };
-    match cook(alloc, net, node, loaded) {
-        Ok(geo) => write_obj(alloc, &geo),
+    let mut vault = Vault::new(alloc);
+    match cook(alloc, net, node, loaded, &mut vault) {
+        Ok(key) => write_obj(alloc, &vault.view(key)),
         Err(_) => Ok(Vec::new(alloc)),
     }
 }

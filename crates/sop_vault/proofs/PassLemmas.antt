@@ -82,6 +82,13 @@ passes_as u v a b a' b' same now p = record {
 pub owns_as : (v : VaultMap) (a b : List ℕ) → ((k : ℕ) → times k b ≡ times k a) → Owns v a → Owns v b
 owns_as v a b same o = record { once = λ k. let e = same k in let l = o.once k in omega arith; live = λ k l. o.live k (let e = same k in omega arith) }
 
+-- some of the keys
+pub owns_back : (v : VaultMap) (a b : List ℕ) → Owns v (a ++ b) → Owns v b
+owns_back v a b o = record { once = λ k. let e = times-append k a b in let l = o.once k in omega arith; live = λ k l. o.live k (let e = times-append k a b in omega arith) }
+
+pub owns_front : (v : VaultMap) (a b : List ℕ) → Owns v (a ++ b) → Owns v a
+owns_front v a b o = record { once = λ k. let e = times-append k a b in let l = o.once k in omega arith; live = λ k l. o.live k (let e = times-append k a b in omega arith) }
+
 -- a key that isn't the run's own keeps its geometry
 pub stays_at : (u v : VaultMap) (a b : List ℕ) → Passes u a v b → (k : ℕ) → times k a ≡ 0 → IsLive u.geos k → (times k b ≡ 0) × (at v.geos k ≡ at u.geos k)
 stays_at u v a b p k apart live = by (none_or_more (times k b))
@@ -115,8 +122,29 @@ module _ (u v : VaultMap) (a b f : List ℕ) (own : Owns u (a ++ f)) (p : Passes
   live_beside o k l (inl none) = o.live k (let e = times-append k b f in omega arith)
   live_beside o k l (inr more) = live_by u v k (still k more).1 (own.live k (let e = times-append k a f in omega arith))
 
+  -- what stands at them stays
+  pub beside_stay : (k : ℕ) → 1 ≤ times k f → at v.geos k ≡ at u.geos k
+  beside_stay k l = (still k l).1
+
   pub owns_beside : Owns v b → Owns v (b ++ f)
   owns_beside o = record { once = λ k. once_beside o k (none_or_more (times k f)); live = λ k l. live_beside o k l (none_or_more (times k f)) }
+
+-- behind other keys
+module _ (u v : VaultMap) (a b f : List ℕ) (own : Owns u (f ++ a)) (p : Passes u a v b) where
+  turned : (x y : List ℕ) (k : ℕ) → times k (y ++ x) ≡ times k (x ++ y)
+  turned x y k = let e = times-append k x y in let g = times-append k y x in omega arith
+
+  before : Owns u (a ++ f)
+  before = owns_as u (f ++ a) (a ++ f) (turned f a) own
+
+  pub passes_behind : Passes u (f ++ a) v (f ++ b)
+  passes_behind = passes_as u v (a ++ f) (b ++ f) (f ++ a) (f ++ b) (turned a f) (turned b f) (passes_beside u v a b f before p)
+
+  pub owns_behind : Owns v b → Owns v (f ++ b)
+  owns_behind o = owns_as v (b ++ f) (f ++ b) (turned b f) (owns_beside u v a b f before p o)
+
+  pub behind_stay : (k : ℕ) → 1 ≤ times k f → at v.geos k ≡ at u.geos k
+  behind_stay k l = beside_stay u v a b f before p k l
 
 -- CALLS
 

@@ -1,8 +1,8 @@
-use Rattle.std.proofs.Common.{◌+◌, ◌*◌}
-use Rattle.std.specs.Prelude.{All, IfSome}
-use Rattle.sop_cook.specs.Ends.{IsReady}
-use Rattle.sop_cook.specs.Cooking.{gives, RunsOn}
+use Rattle.std.proofs.Common.{◌+◌, ◌*◌, ◌≤◌, length, vec_len, vec_capacity}
+use Rattle.sop_cook.specs.Cooking.{gives}
+use Rattle.sop_cook.specs.Keys.{inputs_seen}
 use Rattle.sop_cook.proofs.CookLemmas.{Asked}
+use Rattle.sop_cook.proofs.HandLemmas.{Gathered}
 use Rattle.sop_cook.proofs.serial.Cooking.+cook.Given as goal
 
 abbrev pub decreases-give : goal.decreases-give
@@ -19,7 +19,7 @@ decreases-ask l = 4 * l.left
 
 abbrev pub invariant-gather-loop-i : goal.invariant-gather-loop-i
 invariant-gather-loop-i l = record {
-  on : RunsOn l.fn.self l.self;
-  asked : Asked (gives l.fn.self) l.node l.first l.are_needed l.wires l.i l.inputs.items;
-  ready : All (λ input. IfSome input IsReady) l.inputs.items;
+  room : vec_len l.inputs + length l.wires ≤ vec_capacity l.inputs + l.i;
+  hands : Gathered l.fn.self l.fn.vault l.self l.vault l.inputs.items;
+  asked : Asked (gives l.fn.self) l.node l.first l.are_needed l.wires l.i (inputs_seen l.vault l.inputs.items);
 }

@@ -1,7 +1,7 @@
 use Rattle.std.proofs.Common.{◌≡◌, sym, subst, arith}
 use Rattle.sop_cook.specs.Parts.{AreNone}
 use Rattle.sop_cook.proofs.KeptLemmas.{AreNone-nil, AreNone-push}
-use Rattle.sop_cook.proofs.kept.no_geos.Goals as goal
+use Rattle.sop_cook.proofs.kept.no_keys.Goals as goal
 
 pub loop-init : goal.loop-init
 loop-init c = subst (λ places. AreNone 0 places) (sym c.in_ok-places.ensures.items) AreNone-nil
