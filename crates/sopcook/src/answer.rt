@@ -10,7 +10,7 @@ ghost use Rattle.sopcook.specs.Answer.{refused_with, no_script, script_too_long,
 use geo_text::write_obj;
 use hscript_text::ScriptKind;
 use itoa::Buffer;
-use sop_model::{Fault, Geo};
+use sop_model::{Fault, GeoView};
 use sop_net::{Net, NodeId};
 use sop_outside::ByteList;
 use std::alloc::{AllocError, Global};
@@ -91,14 +91,14 @@ impl Answer {
     }
 
     /// The cook gives a geometry.
-    pub fn of_geo(alloc: Global, geo: &Geo) -> Result<Answer, AllocError>
-        requires readable { IsReadable geo.now }
-        requires position { HasOnlyPosition geo.now }
-        ensures { IfOk result (λ answer. answer ≡ record { status = 0; out = obj_text geo.now; err = [] }) }
+    pub fn of_geo<V: GeoView>(alloc: Global, view: &V) -> Result<Answer, AllocError>
+        requires readable { IsReadable (V.geo view.now) }
+        requires position { HasOnlyPosition (V.geo view.now) }
+        ensures { IfOk result (λ answer. answer ≡ record { status = 0; out = obj_text (V.geo view.now); err = [] }) }
     {
         Ok(Answer {
             status: 0,
-            out: ByteList::from_vec(write_obj(alloc, geo)?),
+            out: ByteList::from_vec(write_obj(alloc, view)?),
             err: ByteList::new(alloc),
         })
     }

@@ -15,6 +15,7 @@ use crate::run_end::RunEnd;
 use sop_cook::{CookEnd, cook, cook_runs_visits};
 use sop_net::{Net, NodeId};
 use sop_outside::Files;
+use sop_vault::Vault;
 use std::alloc::Global;
 
 /// The answer of the node of a name.
@@ -55,8 +56,9 @@ fn answer_node<F: Files>(
     net.is_network();
     cook_runs_visits(net);
     let loaded = load_needs(files, alloc, net, node)?;
-    match cook(alloc, net, node, &loaded) {
-        Ok(geo) => Ok(Answer::of_geo(alloc, &geo)?),
+    let mut vault = Vault::new(alloc);
+    match cook(alloc, net, node, &loaded, &mut vault) {
+        Ok(key) => Ok(Answer::of_geo(alloc, &vault.view(key))?),
         Err(end) => answer_end(alloc, net, &end),
     }
 }

@@ -1,5 +1,8 @@
 use Rattle.std.proofs.Common.{◌≡◌, ℕ, inr, ◌∙◌, sym, ap}
+use Rattle.std.specs.Prelude.{Option, Some, Ok, unwrap_or}
 use Rattle.std.proofs.lemmas.Result.{IfOk-weaker}
+use Rattle.sop_model.specs.declared.geo.Geo.{Geo}
+use Rattle.sop_model.specs.Geometry.{empty_geo}
 use Rattle.sop_model.specs.declared.fault.Fault.TheVariants as fault
 use Rattle.sop_outside.specs.Causes.{Rose}
 use Rattle.sop_cook.specs.declared.cook_end.CookEnd.{CookEnd}
@@ -12,10 +15,14 @@ use Rattle.sopcook.specs.Endings.{IsEndAnswer, IsNodeAnswer}
 use Rattle.sopcook.proofs.LoadsLemmas.{missing_load, told_answer}
 use Rattle.sopcook.proofs.node.answer_node.Goals as goal
 
+-- what is viewed is what stands at the key
+viewed : {o : Option Geo} (geo : Geo) → o ≡ Some geo → geo ≡ unwrap_or o empty_geo
+viewed {o} geo is = ap (λ (p : Option Geo). unwrap_or p empty_geo) (sym is)
+
 pub returns-in-Ok-clause-ok : goal.returns-in-Ok-clause-ok
 returns-in-Ok-clause-ok g c =
     told_answer (g.F.Files.told c.args.files.now) c.args.net.now.nodes c.args.node c.in_ok-loaded.loaded c.in_ok-of_geo-in-Ok.field-0 (c.is_network.ensures.within_used c.args.node c.requires) c.cook_runs_visits.ensures.files
-    c.in_ok-loaded.ensures.all c.in_ok-loaded.ensures.loads (c.in_ok-of_geo-in-Ok.ensures ∙ ap (cook_answer c.args.net.now.nodes) (sym c.in-Ok.ensures.tells))
+    c.in_ok-loaded.ensures.all c.in_ok-loaded.ensures.loads (c.in_ok-of_geo-in-Ok.ensures ∙ ap (λ (geo : Geo). cook_answer c.args.net.now.nodes (Ok geo)) (viewed c.view.result c.view.ensures.geo) ∙ ap (cook_answer c.args.net.now.nodes) (sym c.in-Ok.ensures.tells))
 
 pub returns-clause-ok : goal.returns-clause-ok
 returns-clause-ok g c =
