@@ -6,3 +6,5 @@ pub mod Goodness
 mod Steps
 mod Writing
 mod Examples
+mod Listed
+mod ListingExamples
