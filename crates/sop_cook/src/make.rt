@@ -1,12 +1,12 @@
 //! What a node makes of its inputs and its file.
 ghost use Rattle.std.specs.Prelude.{◌≡◌, All, IfOk, IfSome};
 ghost use Rattle.sop_net.specs.Network.{IsLive, node_of};
-ghost use Rattle.sop_cook.specs.Loads.{file_in};
+ghost use Rattle.sop_basic.specs.Loads.{file_in};
 ghost use Rattle.sop_cook.specs.Made.{file_geo, is_built, made, only};
 ghost use Rattle.sop_cook.specs.Ends.{IsReady};
 ghost use Rattle.sop_cook.specs.Parts.{TellsMade};
 
-use crate::loaded::{Loaded, LoadedFile};
+use sop_basic::{Loaded, LoadedFile};
 use crate::merge::merge;
 use geo_text::{ObjFault, read_obj};
 use sop_model::{CookStop, Fault, Geo};

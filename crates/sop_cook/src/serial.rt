@@ -5,7 +5,7 @@ ghost use Rattle.sop_model.specs.declared.fault.Fault.{Fault};
 ghost use Rattle.sop_net.specs.Graph.{Within};
 ghost use Rattle.sop_net.specs.Network.{IsLive, node_of, used_sources};
 ghost use Rattle.sop_net.specs.Sockets.{sockets_of};
-ghost use Rattle.sop_cook.specs.Loads.{file_in};
+ghost use Rattle.sop_basic.specs.Loads.{file_in};
 ghost use Rattle.sop_cook.specs.Visit.{at_node, ask, ask_all};
 ghost use Rattle.sop_cook.specs.SerialCook.{cook_of};
 ghost use Rattle.sop_cook.specs.Laws.{IsMissing};
@@ -15,7 +15,7 @@ ghost use Rattle.sop_cook.specs.Cooking.{nodes_of, gives, IsRunning, RunsOn};
 
 use crate::cook_end::CookEnd;
 use crate::kept::Kept;
-use crate::loaded::Loaded;
+use sop_basic::Loaded;
 use crate::make::{is_built, make};
 use sop_model::{CookStop, Fault, Geo};
 use sop_net::{Net, NodeId, Sockets};

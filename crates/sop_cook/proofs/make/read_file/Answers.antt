@@ -1,5 +1,5 @@
 use Rattle.std.proofs.Common.{sym, ◌∙◌, ap, subst}
-use Rattle.sop_cook.specs.declared.loaded.LoadedFile.TheVariants.{Bytes}
+use Rattle.sop_basic.specs.declared.loaded.LoadedFile.TheVariants.{Bytes}
 use Rattle.sop_cook.specs.Made.{file_geo}
 use Rattle.sop_cook.specs.Parts.{TellsMade}
 use Rattle.sop_cook.proofs.LoadsLemmas.{file_known}

@@ -5,7 +5,7 @@ use Rattle.sop_net.specs.Graph.{Within}
 use Rattle.sop_net.specs.Network.{node_of, used_sources}
 use Rattle.sop_net.specs.Sockets.{sockets_from}
 use Rattle.sop_net.proofs.UsedLemmas.{within_less}
-use Rattle.sop_cook.specs.Loads.{file_in}
+use Rattle.sop_basic.specs.Loads.{file_in}
 use Rattle.sop_cook.specs.Made.{made}
 use Rattle.sop_cook.specs.Visit.{ask, ask_all}
 use Rattle.sop_cook.specs.Ends.{IsReady}

@@ -1,6 +1,6 @@
 use Rattle.std.proofs.Common.{refl}
 use Rattle.sop_outside.proofs.TextMaps.{by_bytes-updates}
-use Rattle.sop_cook.proofs.loaded.Loaded.add.Goals as goal
+use Rattle.sop_basic.proofs.loaded.Loaded.add.Goals as goal
 
 pub returns-in-Ok-clause-ok : goal.returns-in-Ok-clause-ok
 returns-in-Ok-clause-ok c =

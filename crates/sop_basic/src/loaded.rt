@@ -28,7 +28,7 @@ pub struct Loaded {
 
 impl Model for Loaded {
     ghost use Rattle.sop_outside.specs.TextMaps.{by_bytes};
-    ghost use Rattle.sop_cook.specs.Loads.{Loads, loads_code};
+    ghost use Rattle.sop_basic.specs.Loads.{Loads, loads_code};
 
     ghost Value = { Loads };
 
@@ -67,8 +67,8 @@ impl Loaded {
         self.files.contains_key(name)
     }
 
-    /// The load of a name.
-    pub(crate) fn get(&self, name: &str) -> Option<&LoadedFile>
+    /// The load of a name; None where there is none. It takes no memory.
+    pub fn get(&self, name: &str) -> Option<&LoadedFile>
         ensures { option_copied result ≡ map.get self.now name.now }
     {
         self.files.get(name)

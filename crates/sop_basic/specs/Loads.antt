@@ -6,8 +6,8 @@ use mathlib.Core.Logic.{inl, inr}
 use Rattle.std.specs.Ordering.{nat_cmp}
 use Rattle.std.specs.Cmp.Lexicographic.{slice_cmp}
 use Rattle.std.specs.FinMap as finite
-use Rattle.sop_cook.specs.declared.loaded.LoadedFile.{LoadedFile}
-use Rattle.sop_cook.specs.declared.loaded.LoadedFile.TheVariants.{Bytes, Missing, TooLong}
+use Rattle.sop_basic.specs.declared.loaded.LoadedFile.{LoadedFile}
+use Rattle.sop_basic.specs.declared.loaded.LoadedFile.TheVariants.{Bytes, Missing, TooLong}
 
 -- what the load of each name gave, for finitely many names
 abbrev pub Loads : Type 0

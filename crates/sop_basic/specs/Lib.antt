@@ -1,0 +1,16 @@
+pub mod Loads
+pub mod ParmTexts
+pub mod Outcomes
+pub mod Selecting
+pub mod Shapes
+pub mod File
+pub mod Add
+pub mod Line
+pub mod Grid
+pub mod Box
+pub mod Xform
+pub mod Heads
+pub mod AttribCreate
+pub mod AttribDelete
+pub mod Enumerate
+pub mod Basic
