@@ -1,1 +1,5 @@
 mod Examples
+pub mod MakingLemmas
+pub mod MovementLemmas
+pub mod ShapeLemmas
+pub mod ParmLemmas

@@ -14,3 +14,6 @@ pub mod AttribCreate
 pub mod AttribDelete
 pub mod Enumerate
 pub mod Basic
+pub mod Making
+pub mod Movements
+pub mod Rules

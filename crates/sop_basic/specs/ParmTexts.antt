@@ -2,16 +2,15 @@
 use Rattle.std.specs.Prelude.{ℕ, ℤ, pos, unsigned_abs, if◌then◌else◌, List, [], ◌∷◌, map, slice_index_or, unwrap_or, codes, bytes_eq}
 use Rattle.std.specs.Result.{result_ok}
 use Rattle.sop_outside.specs.Blanks.{words_of}
-use Rattle.sop_fixed.specs.Numerals.{value_of}
+use Rattle.sop_fixed.specs.Numerals.{value_of, whole_number_of}
 use Rattle.sop_fixed.specs.declared.vec3.Vec3.{Vec3}
 use Rattle.sop_model.specs.declared.class.Class.{Class}
 use Rattle.sop_model.specs.declared.class.Class.TheVariants.{Detail, Prim, Point, Vertex}
 use Rattle.sop_model.specs.Values.{zero_vector}
-use Rattle.sop_net.specs.ParmValues.{whole_of}
 
 -- a whole number, and one that isn't below zero
 abbrev pub whole_in : List ℕ → ℤ
-whole_in text = unwrap_or (whole_of text) (pos 0)
+whole_in text = unwrap_or (result_ok (whole_number_of text)) (pos 0)
 
 abbrev pub count_in : List ℕ → ℕ
 count_in text = unsigned_abs (whole_in text)

@@ -1,5 +1,6 @@
 -- Points and primitives with no attribute but `P`.
-use Rattle.std.specs.Prelude.{ℕ, Bool, List, map}
+use Rattle.std.specs.Prelude.{ℕ, Bool, true, List, map}
+use Rattle.std.specs.List.{range_with_len}
 use Rattle.sop_fixed.specs.declared.vec3.Vec3.{Vec3}
 use Rattle.sop_model.specs.declared.geo.Geo.{Geo}
 use Rattle.sop_model.specs.declared.geo.Corner.{Corner}
@@ -17,3 +18,7 @@ prim_through closed points = record { closed = closed; row = empty_row; corners 
 -- points at these places, and primitives
 abbrev pub shape : List Vec3 → List Primitive → Geo
 shape places prims = plain_geo (map point_row places) prims
+
+-- closed primitives, so many, through the points that are told of each
+abbrev pub closed_prims : (ℕ → List ℕ) → ℕ → List Primitive
+closed_prims corners count = map (λ i. prim_through true (corners i)) (range_with_len 0 count)

@@ -2,6 +2,12 @@
 //! moved, and attributes that come, go and count.
 #![tactic(auto)]
 
+mod line;
 mod loaded;
+mod making;
+
+mod movement;
+mod parm_texts;
+mod parts;
 
 pub use loaded::{Loaded, LoadedFile};

@@ -11,8 +11,8 @@ mod uses;
 
 pub use cook_end::CookEnd;
 pub use law::cook_runs_visits;
-pub use sop_basic::{Loaded, LoadedFile};
 pub use serial::cook;
+pub use sop_basic::{Loaded, LoadedFile};
 
 #[cfg(test)]
 mod tests;

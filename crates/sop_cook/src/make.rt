@@ -6,9 +6,9 @@ ghost use Rattle.sop_cook.specs.Made.{file_geo, is_built, made, only};
 ghost use Rattle.sop_cook.specs.Ends.{IsReady};
 ghost use Rattle.sop_cook.specs.Parts.{TellsMade};
 
-use sop_basic::{Loaded, LoadedFile};
 use crate::merge::merge;
 use geo_text::{ObjFault, read_obj};
+use sop_basic::{Loaded, LoadedFile};
 use sop_model::{CookStop, Fault, Geo};
 use sop_net::{Net, NodeId, NodeType};
 use std::alloc::Global;

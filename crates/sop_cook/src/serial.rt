@@ -15,8 +15,8 @@ ghost use Rattle.sop_cook.specs.Cooking.{nodes_of, gives, IsRunning, RunsOn};
 
 use crate::cook_end::CookEnd;
 use crate::kept::Kept;
-use sop_basic::Loaded;
 use crate::make::{is_built, make};
+use sop_basic::Loaded;
 use sop_model::{CookStop, Fault, Geo};
 use sop_net::{Net, NodeId, Sockets};
 use std::alloc::Global;
