@@ -3,3 +3,5 @@ pub mod MakingLemmas
 pub mod MovementLemmas
 pub mod ShapeLemmas
 pub mod ParmLemmas
+pub mod QuadLemmas
+pub mod BoxLemmas

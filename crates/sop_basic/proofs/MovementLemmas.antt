@@ -1,5 +1,5 @@
 -- Points moved one after the other: one more, the last, and a stop.
-use Rattle.std.proofs.Common.{◌≡◌, ◌≢◌, ℕ, zero, suc, ◌+◌, ◌<◌, List, [], ◌∷◌, ◌++◌, length, drop, get_or, replicate, refl, sym, ap, ◌∙◌, subst, arith, append_assoc, length-append, length-drop}
+use Rattle.std.proofs.Common.{◌≡◌, ◌≢◌, ℕ, zero, suc, ◌+◌, ◌<◌, ◌≤◌, List, [], ◌∷◌, ◌++◌, length, drop, get_or, replicate, refl, sym, ap, ◌∙◌, subst, arith, append_assoc, length-append, length-drop}
 use Rattle.std.specs.Prelude.{Option, Some, None, Result, Ok, Err, IfSome, IsSomeAnd, slice_get, map, option_map}
 use Rattle.std.specs.List.{range_with_len}
 use Rattle.std.proofs.lemmas.List.{length-map}
@@ -16,6 +16,7 @@ use Rattle.sop_model.specs.declared.fault.Fault.TheVariants as fault
 use Rattle.sop_model.specs.declared.fault.CookStop.{CookStop}
 use Rattle.sop_model.specs.declared.fault.CookStop.TheVariants as stop
 use Rattle.sop_model.specs.declared.value.Value.TheVariants as value
+use Rattle.sop_model.specs.Limits.{most_points}
 use Rattle.sop_model.specs.Geometry.{empty_row, only_position, empty_geo, BeginsWithPosition, IsReadable}
 use Rattle.sop_model.specs.Values.{zero_vector}
 use Rattle.sop_model.specs.Plain.{point_row}
@@ -26,9 +27,10 @@ use Rattle.sop_vault.specs.Keyed.{at, IsLive}
 use Rattle.sop_vault.specs.Vaults.{VaultMap, Changed}
 use Rattle.sop_basic.specs.Outcomes.{Outcome, then_with, in_range_from, all_in_range}
 use Rattle.sop_basic.specs.Shapes.{shape}
-use Rattle.sop_basic.specs.Making.{Makes, Touched}
+use Rattle.sop_basic.specs.Making.{Makes, Touched, HasPoints}
 use Rattle.sop_basic.specs.Movements.{Rule, of_point, point_moved, rows_moved, points_moved, points_made}
-use Rattle.sop_basic.proofs.MakingLemmas.{changed_then, touched_changed, touched_then, if_there, same_there, untouched, live_of}
+use Rattle.sop_basic.proofs.ShapeLemmas.{places_long}
+use Rattle.sop_basic.proofs.MakingLemmas.{makes_then, makes_as, changed_then, touched_changed, touched_then, if_there, same_there, untouched, live_of}
 
 abbrev pub put_before : List Row → Result (List Row) Fault → Result (List Row) Fault
 put_before front rest = then_with rest (λ rows. Ok (front ++ rows))
@@ -263,3 +265,36 @@ module _ (rule : Rule) where
       from (Ok places) same is =
           let e : shape places [] ≡ h = cc in
           (places, same, sym e, in_range_long 0 (targets 0 n) places same ∙ length-map (range_with_len 0 n) (λ i. rule i zero_vector) ∙ length-range_with_len 0 n)
+
+-- points that were made at a key: what stands there, and what follows
+module _ (rule : Rule) (n : ℕ) (old mid : VaultMap) (key : ℕ) (made : Makes old mid key (points_made rule n) (Ok tt)) where
+  pub made_points : n ≤ most_points → HasPoints mid key
+  made_points few =
+      let (h, is, ch) = made in
+      let (places, all, same, long) = made_shape rule n h is in
+      record { places = places; there = ch.geos.here ∙ ap Some same; few = omega arith }
+
+  pub made_many : (places : List Vec3) → at mid.geos key ≡ Some (shape places []) → length places ≡ n
+  made_many places there =
+      let (h, is, ch) = made in
+      let (others, all, same, long) = made_shape rule n h is in
+      places_long places others [] [] (same_there (at mid.geos key) (shape places []) (shape others []) there (ch.geos.here ∙ ap Some same)) ∙ long
+
+  pub made_then : (new : VaultMap) (next : List Vec3 → Outcome) (r : Result (Unit {0}) CookStop) → ((places : List Vec3) → at mid.geos key ≡ Some (shape places []) → Makes mid new key (next places) r)
+      → Makes old new key (then_with (all_in_range (targets rule 0 n)) next) r
+  made_then new next r step =
+      let (h, is, ch) = made in
+      let (places, all, same, long) = made_shape rule n h is in
+      makes_as old new key (then_with (points_made rule n) (λ g. next places)) (then_with (all_in_range (targets rule 0 n)) next) r
+      (ap (λ r. then_with (then_with r (λ ps. Ok (shape ps []))) (λ g. next places)) all ∙ sym (ap (λ r. then_with r next) all))
+      (makes_then old mid new key (points_made rule n) (λ g. next places) h r is ch (step places (ch.geos.here ∙ ap Some same)))
+
+-- points that weren't made
+pub unmade_then : (rule : Rule) (n : ℕ) (old new : VaultMap) (key : ℕ) (s : CookStop) (next : List Vec3 → Outcome) → Makes old new key (points_made rule n) (Err s)
+    → Makes old new key (then_with (all_in_range (targets rule 0 n)) next) (Err s)
+unmade_then rule n old new key (stop.Fault f) next (made, then) = (fails (all_in_range (targets rule 0 n)) made, then)
+  where
+    fails : (r : Result (List Vec3) Fault) → then_with r (λ ps. Ok (shape ps [])) ≡ Err f → then_with r next ≡ Err f
+    fails (Ok places) is = cc
+    fails (Err e) is = cc
+unmade_then rule n old new key stop.Memory next then = then

@@ -14,6 +14,10 @@ use Rattle.sop_model.specs.Geometry.{IsWithin}
 use Rattle.sop_model.specs.Rows.{prim_added, ArePoints}
 use Rattle.sop_model.specs.Plain.{point_row}
 use Rattle.sop_model.proofs.PlainLimits.{IsWithin-from_only}
+use Rattle.sop_vault.specs.Keyed.{at}
+use Rattle.sop_vault.specs.Vaults.{VaultMap}
+use Rattle.sop_basic.specs.Making.{HasPoints}
+use Rattle.sop_basic.proofs.MakingLemmas.{same_there}
 use Rattle.sop_basic.specs.Shapes.{shape, prim_through, corner_on, closed_prims}
 
 pub shape_within : (places : List Vec3) (prims : List Primitive) → length places ≤ most_points → length prims ≤ most_prims → length (corners_of prims) ≤ most_vertices → IsWithin (shape places prims)
@@ -48,3 +52,30 @@ module _ (corners : ℕ → List ℕ) where
       let next : suc n ≡ n + 1 = omega arith in
       ap (λ k. length (corners_of (closed_prims corners k))) next ∙ ap (λ (ps : List Primitive). length (corners_of ps)) (prims_more n)
       ∙ vertices_behind (closed_prims corners n) true (corners n) ∙ (let f = four n in let rest = prims_vertices four n in omega arith)
+
+pub range_more : (a n : ℕ) → range_with_len a (n + 1) ≡ range_with_len a n ++ (a + n) ∷ []
+range_more a zero = let e : a ≡ a + 0 = omega arith in ap (λ k. k ∷ []) e
+range_more a (suc n) =
+    let next : suc n + 1 ≡ suc (n + 1) = omega arith in
+    let last : (a + 1) + n ≡ a + suc n = omega arith in
+    ap (range_with_len a) next ∙ ap (λ xs. a ∷ xs) (range_more (a + 1) n) ∙ ap (λ k. (a ∷ range_with_len (a + 1) n) ++ k ∷ []) last
+
+-- the points at a key, and one primitive through all of them
+module _ (v : VaultMap) (key count : ℕ) (has : HasPoints v key) (numbers : List ℕ) (are : numbers ≡ range_with_len 0 count) (many : length has.places ≡ count) where
+  pub through_points : (g : Geo) → at v.geos key ≡ Some g → ArePoints g numbers
+  through_points g there =
+      let same = same_there (at v.geos key) (shape has.places []) g has.there there in
+      let below = points_of_shape has.places [] numbers (subst (λ xs. All (λ p. p < length has.places) xs) (sym are) (subst (λ n. All (λ p. p < n) (range_with_len 0 count)) (sym many) (all_below count))) in
+      subst (λ (x : Geo). ArePoints x numbers) same below
+
+  pub through_room : (closed : Bool) (g : Geo) → at v.geos key ≡ Some g → IsWithin (prim_added g closed numbers)
+  through_room closed g there =
+      let same = same_there (at v.geos key) (shape has.places []) g has.there there in
+      let long : length numbers ≡ count = ap (λ (xs : List ℕ). length xs) are ∙ length-range_with_len 0 count in
+      let vertices = vertices_behind [] closed numbers in
+      subst (λ (x : Geo). IsWithin (prim_added x closed numbers)) same
+      (shape_within has.places (prim_through closed numbers ∷ []) has.few (omega arith) (let few = has.few in omega arith))
+
+-- as many places as a shape has points
+pub places_long : (a b : List Vec3) (ps qs : List Primitive) → shape a ps ≡ shape b qs → length a ≡ length b
+places_long a b ps qs same = sym (length-map a point_row) ∙ ap (λ (g : Geo). length g.points) same ∙ length-map b point_row

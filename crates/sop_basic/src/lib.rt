@@ -2,6 +2,8 @@
 //! moved, and attributes that come, go and count.
 #![tactic(auto)]
 
+mod box_node;
+mod grid;
 mod line;
 mod loaded;
 mod making;
@@ -9,5 +11,7 @@ mod making;
 mod movement;
 mod parm_texts;
 mod parts;
+mod quads;
+mod xform;
 
 pub use loaded::{Loaded, LoadedFile};
