@@ -5,3 +5,6 @@ pub mod ShapeLemmas
 pub mod ParmLemmas
 pub mod QuadLemmas
 pub mod BoxLemmas
+pub mod NumberLemmas
+pub mod GridLemmas
+pub mod XformLemmas

@@ -1,5 +1,5 @@
 -- Steps at a key, one after the other.
-use Rattle.std.proofs.Common.{◌≡◌, ◌≢◌, ℕ, refl, sym, ap, ◌∙◌, subst}
+use Rattle.std.proofs.Common.{◌≡◌, ℕ, refl, sym, ap, ◌∙◌, subst}
 use Rattle.std.specs.Prelude.{Option, Some, None, Result, Ok, Err, IfSome, IsSome, IsSomeAnd, IsErrAnd}
 use Rattle.std.proofs.lemmas.Result.{err_from_is_err_and}
 use Rattle.sop_model.specs.declared.geo.Geo.{Geo}
@@ -7,9 +7,9 @@ use Rattle.sop_model.specs.declared.fault.CookStop.{CookStop}
 use Rattle.sop_model.specs.declared.fault.CookStop.TheVariants as stop
 use Rattle.sop_columns.proofs.NameLemmas.{grows_none, grows_then}
 use Rattle.sop_vault.specs.Keyed.{at, IsLive}
-use Rattle.sop_vault.specs.Vaults.{VaultMap, Changed, Added, IsAsBefore}
+use Rattle.sop_vault.specs.Vaults.{VaultMap, Changed, IsAsBefore}
 use Rattle.sop_basic.specs.Outcomes.{Outcome, then_with}
-use Rattle.sop_basic.specs.Making.{Touched, Makes, IsKept, Gives}
+use Rattle.sop_basic.specs.Making.{Touched, Makes}
 
 -- what is said of the geometry that stands there
 pub if_there : (o : Option Geo) (P : Geo → Type 0) (g : Geo) → o ≡ Some g → IfSome o P → P g

@@ -1,6 +1,6 @@
 -- Points moved one after the other: one more, the last, and a stop.
-use Rattle.std.proofs.Common.{◌≡◌, ◌≢◌, ℕ, zero, suc, ◌+◌, ◌<◌, ◌≤◌, List, [], ◌∷◌, ◌++◌, length, drop, get_or, replicate, refl, sym, ap, ◌∙◌, subst, arith, append_assoc, length-append, length-drop}
-use Rattle.std.specs.Prelude.{Option, Some, None, Result, Ok, Err, IfSome, IsSomeAnd, slice_get, map, option_map}
+use Rattle.std.proofs.Common.{◌≡◌, ℕ, zero, suc, ◌+◌, ◌<◌, ◌≤◌, List, [], ◌∷◌, ◌++◌, length, drop, get_or, replicate, refl, sym, ap, ◌∙◌, subst, arith, append_assoc, length-append, length-drop}
+use Rattle.std.specs.Prelude.{Some, Result, Ok, Err, IfSome, IsSomeAnd, slice_get, map, option_map}
 use Rattle.std.specs.List.{range_with_len}
 use Rattle.std.proofs.lemmas.List.{length-map}
 use Rattle.std.proofs.lemmas.List.FromFn.{length-range_with_len}
@@ -27,7 +27,7 @@ use Rattle.sop_vault.specs.Keyed.{at, IsLive}
 use Rattle.sop_vault.specs.Vaults.{VaultMap, Changed}
 use Rattle.sop_basic.specs.Outcomes.{Outcome, then_with, in_range_from, all_in_range}
 use Rattle.sop_basic.specs.Shapes.{shape}
-use Rattle.sop_basic.specs.Making.{Makes, Touched, HasPoints}
+use Rattle.sop_basic.specs.Making.{Makes, HasPoints}
 use Rattle.sop_basic.specs.Movements.{Rule, of_point, point_moved, rows_moved, points_moved, points_made}
 use Rattle.sop_basic.proofs.ShapeLemmas.{places_long}
 use Rattle.sop_basic.proofs.MakingLemmas.{makes_then, makes_as, changed_then, touched_changed, touched_then, if_there, same_there, untouched, live_of}
@@ -157,10 +157,11 @@ drop_all (x ∷ xs) = drop_all xs
 
 pub moving_done : (rule : Rule) (g : Geo) (old now : VaultMap) (key i : ℕ) → i ≡ length g.points → IsMoving rule g old now key i → Makes old now key (points_moved rule g) (Ok tt)
 moving_done rule g old now key i all m =
-    let none : drop i g.points ≡ [] = ap (λ k. drop k g.points) all ∙ drop_all g.points in
-    (record g { points = m.front ++ [] },
-    ap (λ r. then_with r (λ rows. Ok (record g { points = rows }))) (m.whole ∙ ap (λ rows. put_before m.front (rows_moved rule i rows)) none),
-    subst (λ (rows : List Row). Changed old now key (Some (record g { points = m.front ++ rows }))) none m.state)
+    let none : drop i g.points ≡ [] = ap (λ k. drop k g.points) all ∙ drop_all g.points in (
+      record g { points = m.front ++ [] },
+      ap (λ r. then_with r (λ rows. Ok (record g { points = rows }))) (m.whole ∙ ap (λ rows. put_before m.front (rows_moved rule i rows)) none),
+      subst (λ (rows : List Row). Changed old now key (Some (record g { points = m.front ++ rows }))) none m.state,
+    )
 
 -- ---- one point, as a view tells it
 place_in : (rows : List Row) (i : ℕ) (p : Vec3) → slice_get (map place_of rows) i ≡ Some p → place_of (get_or rows i empty_row) ≡ p
@@ -215,13 +216,13 @@ abbrev made_row : Row
 made_row = default_row only_position
 
 module _ (rule : Rule) where
-  abbrev targets : ℕ → ℕ → List (Result Vec3 NumFault)
+  abbrev pub targets : ℕ → ℕ → List (Result Vec3 NumFault)
   targets i n = map (λ i. rule i zero_vector) (range_with_len i n)
 
   one_made : (i : ℕ) (rest : List Row) (results : List (Result Vec3 NumFault)) (r : Result Vec3 NumFault)
       → rows_moved rule (suc i) rest ≡ then_with (in_range_from (suc i) results) (λ places. Ok (map point_row places))
       → then_with (of_point i r) (λ v. then_with (rows_moved rule (suc i) rest) (λ moved. Ok (with_value 0 (value.Vector v) made_row ∷ moved)))
-          ≡ then_with (in_range_from i (r ∷ results)) (λ places. Ok (map point_row places))
+      ≡ then_with (in_range_from i (r ∷ results)) (λ places. Ok (map point_row places))
   one_made i rest results (Err e) same = refl
   one_made i rest results (Ok v) same = ap (λ r. then_with r (λ moved. Ok (with_value 0 (value.Vector v) made_row ∷ moved))) same ∙ both (in_range_from (suc i) results)
     where

@@ -1,12 +1,12 @@
 -- The texts of parameters, as their types take them.
-use Rattle.std.proofs.Common.{◌≡◌, ℕ, zero, suc, ◌<◌, ◌≤◌, ◌&&◌, Bool, true, false, List, [], ◌∷◌, length, refl, sym, ap, ◌∙◌, subst, arith}
+use Rattle.std.proofs.Common.{◌≡◌, ℕ, zero, suc, ◌≤◌, ◌&&◌, Bool, true, false, List, [], ◌∷◌, length, refl, ap, subst, arith}
 use Rattle.std.specs.Prelude.{ℤ, pos, negsuc, int_le, unsigned_abs, Option, Some, None, slice_get, IsTrue, nat_le, if◌then◌else◌, unwrap_or}
 use Rattle.std.specs.Result.{result_ok}
 use Rattle.std.proofs.lemmas.Bool.{and_parts}
 use Rattle.sop_fixed.specs.Numerals.{after_minus, whole_number_of}
 use Rattle.sop_net.specs.Limits.{most_whole_digits}
 use Rattle.sop_net.specs.NodeTable.{Parm, Whole}
-use Rattle.sop_net.specs.ParmValues.{is_value, whole_of, is_between}
+use Rattle.sop_net.specs.ParmValues.{is_value, is_between}
 use Rattle.sop_net.specs.Network.{AreValues, parm_at}
 use Rattle.sop_basic.specs.ParmTexts.{count_in}
 

@@ -1,6 +1,6 @@
 -- What a call does to the geometries of a vault: what steps make of the geometry at a new key, and what is left where they stop. For private
 -- contracts, but for `Gives`.
-use Rattle.std.specs.Prelude.{◌≡◌, ◌≢◌, ℕ, ◌≤◌, List, [], length, Option, Some, Result, Ok, Err}
+use Rattle.std.specs.Prelude.{◌≡◌, ◌≢◌, ℕ, ◌≤◌, List, [], length, Some, Result, Ok, Err}
 use Rattle.sop_fixed.specs.declared.vec3.Vec3.{Vec3}
 use Rattle.sop_model.specs.Limits.{most_points}
 use Rattle.sop_model.specs.declared.geo.Geo.{Geo}

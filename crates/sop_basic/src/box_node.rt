@@ -84,11 +84,7 @@ impl Quads for Sides {
 }
 
 /// Makes the box of a node at a key of the empty geometry. `Range` names the first point that is out of range.
-pub fn cook_box<'b>(
-    vault: &mut Vault<'b>,
-    key: GeoKey,
-    parms: &Parms,
-) -> Result<(), CookStop>
+pub fn cook_box<'b>(vault: &mut Vault<'b>, key: GeoKey, parms: &Parms) -> Result<(), CookStop>
     requires fresh { at vault.old.geos key ≡ Some empty_geo }
     requires values { AreValues (parms_of type.Box) parms.now }
     ensures { Makes vault.old vault.new key (box_geo parms.now) result }

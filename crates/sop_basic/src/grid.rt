@@ -90,11 +90,7 @@ fn across(size: Real, count: u32, i: u32) -> Real
 }
 
 /// Makes the grid of a node at a key of the empty geometry.
-pub fn cook_grid<'b>(
-    vault: &mut Vault<'b>,
-    key: GeoKey,
-    parms: &Parms,
-) -> Result<(), CookStop>
+pub fn cook_grid<'b>(vault: &mut Vault<'b>, key: GeoKey, parms: &Parms) -> Result<(), CookStop>
     requires fresh { at vault.old.geos key ≡ Some empty_geo }
     requires values { AreValues (parms_of type.Grid) parms.now }
     ensures { Makes vault.old vault.new key (grid_geo parms.now) result }

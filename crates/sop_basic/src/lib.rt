@@ -7,7 +7,6 @@ mod grid;
 mod line;
 mod loaded;
 mod making;
-
 mod movement;
 mod parm_texts;
 mod parts;

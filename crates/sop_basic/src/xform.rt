@@ -61,11 +61,7 @@ fn scaled(place: Real, scale: Real, by: Real) -> Result<Real, NumFault>
 }
 
 /// Moves all points of the geometry at a key. `Range` names the first that goes out of range.
-pub fn cook_xform<'b>(
-    vault: &mut Vault<'b>,
-    key: GeoKey,
-    parms: &Parms,
-) -> Result<(), CookStop>
+pub fn cook_xform<'b>(vault: &mut Vault<'b>, key: GeoKey, parms: &Parms) -> Result<(), CookStop>
     requires live { IsLive vault.old.geos key }
     requires values { AreValues (parms_of type.Xform) parms.now }
     ensures { (g : Geo) → at vault.old.geos key ≡ Some g → Makes vault.old vault.new key (xform_geo everything parms.now g) result }
