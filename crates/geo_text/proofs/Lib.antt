@@ -6,5 +6,5 @@ pub mod Goodness
 mod Steps
 mod Writing
 mod Examples
-mod Listed
+pub mod Listed
 mod ListingExamples

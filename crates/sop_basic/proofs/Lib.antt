@@ -8,3 +8,4 @@ pub mod BoxLemmas
 pub mod NumberLemmas
 pub mod GridLemmas
 pub mod XformLemmas
+pub mod WeightLemmas

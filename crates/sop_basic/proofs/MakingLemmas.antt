@@ -1,15 +1,22 @@
 -- Steps at a key, one after the other.
-use Rattle.std.proofs.Common.{◌≡◌, ℕ, refl, sym, ap, ◌∙◌, subst}
-use Rattle.std.specs.Prelude.{Option, Some, None, Result, Ok, Err, IfSome, IsSome, IsSomeAnd, IsErrAnd}
+use Rattle.std.proofs.Common.{◌≡◌, ◌≢◌, ◌⊎◌, inl, inr, ℕ, ◌<◌, ◌≤◌, min, Bool, true, false, arith, refl, sym, ap, ◌∙◌, subst}
+use Rattle.std.specs.Prelude.{Option, Some, None, Result, Ok, Err, IfSome, IsSome, IsSomeAnd, IsErrAnd, is_some, if◌then◌else◌}
 use Rattle.std.proofs.lemmas.Result.{err_from_is_err_and}
+use Rattle.std.proofs.lemmas.Bool.{false≢true}
 use Rattle.sop_model.specs.declared.geo.Geo.{Geo}
+use Rattle.sop_model.specs.declared.fault.Fault.{Fault}
+use Rattle.sop_model.specs.declared.fault.Fault.TheVariants as fault
+use Rattle.sop_model.specs.Limits.{most_weight}
+use Rattle.sop_model.specs.Geometry.{geo_weight, fits, IsWithin}
+use Rattle.sop_model.proofs.LimitsLemmas.{fits-true, fits_weight, Fits-from, Fits-from_fits}
+use Rattle.sop_pages.proofs.MoveLemmas.{same_or}
 use Rattle.sop_model.specs.declared.fault.CookStop.{CookStop}
 use Rattle.sop_model.specs.declared.fault.CookStop.TheVariants as stop
 use Rattle.sop_columns.proofs.NameLemmas.{grows_none, grows_then}
 use Rattle.sop_vault.specs.Keyed.{at, IsLive}
-use Rattle.sop_vault.specs.Vaults.{VaultMap, Changed, IsAsBefore}
-use Rattle.sop_basic.specs.Outcomes.{Outcome, then_with}
-use Rattle.sop_basic.specs.Making.{Touched, Makes}
+use Rattle.sop_vault.specs.Vaults.{VaultMap, Changed, Added, IsAsBefore}
+use Rattle.sop_basic.specs.Outcomes.{Outcome, then_with, limited, within_limits}
+use Rattle.sop_basic.specs.Making.{Touched, Makes, IsKept, Gives, Judges}
 
 -- what is said of the geometry that stands there
 pub if_there : (o : Option Geo) (P : Geo → Type 0) (g : Geo) → o ≡ Some g → IfSome o P → P g
@@ -62,14 +69,14 @@ touched_then a b c key first second = record {
 -- a step and what follows it
 pub makes_then : (a b c : VaultMap) (key : ℕ) (outcome : Outcome) (next : Geo → Outcome) (g : Geo) (r : Result (Unit {0}) CookStop)
     → outcome ≡ Ok g → Changed a b key (Some g) → Makes b c key (next g) r → Makes a c key (then_with outcome next) r
-makes_then a b c key outcome next g (Ok done) is ch (h, made, then) = (h, ap (λ o. then_with o next) is ∙ made, changed_then a b c key (Some g) (Some h) ch then)
-makes_then a b c key outcome next g (Err (stop.Fault f)) is ch (made, then) = (ap (λ o. then_with o next) is ∙ made, touched_then a b c key (touched_changed a b key g ch) then)
-makes_then a b c key outcome next g (Err stop.Memory) is ch then = touched_then a b c key (touched_changed a b key g ch) then
+makes_then a b c key outcome next g (Ok done) is ch (h, made, ended) = (h, ap (λ o. then_with o next) is ∙ made, changed_then a b c key (Some g) (Some h) ch ended)
+makes_then a b c key outcome next g (Err (stop.Fault f)) is ch (made, ended) = (ap (λ o. then_with o next) is ∙ made, touched_then a b c key (touched_changed a b key g ch) ended)
+makes_then a b c key outcome next g (Err stop.Memory) is ch ended = touched_then a b c key (touched_changed a b key g ch) ended
 
 pub makes_stopped : (a b : VaultMap) (key : ℕ) (outcome : Outcome) (next : Geo → Outcome) (s : CookStop)
     → Makes a b key outcome (Err s) → Makes a b key (then_with outcome next) (Err s)
-makes_stopped a b key outcome next (stop.Fault f) (made, then) = (ap (λ o. then_with o next) made, then)
-makes_stopped a b key outcome next stop.Memory then = then
+makes_stopped a b key outcome next (stop.Fault f) (made, ended) = (ap (λ o. then_with o next) made, ended)
+makes_stopped a b key outcome next stop.Memory ended = ended
 
 -- an outcome that is the same
 pub makes_as : (a b : VaultMap) (key : ℕ) (outcome other : Outcome) (r : Result (Unit {0}) CookStop) → outcome ≡ other → Makes a b key outcome r → Makes a b key other r
@@ -80,3 +87,60 @@ pub ended_as : (r : Result (Unit {0}) CookStop) (s : CookStop) (P : Result (Unit
 ended_as r s P ended at =
     let (y, is, same) = err_from_is_err_and r ended in
     subst P (sym is) (subst (λ (e : CookStop). P (Err e)) (sym same) at)
+
+-- ---- the limits of what was made
+pub judges_by : (g : Geo) (weight : ℕ) → IsWithin g → weight ≡ min (geo_weight g) 18446744073709551615 → weight ≤ most_weight → within_limits g ≡ Ok g
+judges_by g weight within is light = ap (λ b. if b then Ok g else Err fault.Limit) (fits-true g (Fits-from g within (omega (arith, is, light))))
+
+pub judges_not : (g : Geo) (weight : ℕ) → weight ≡ min (geo_weight g) 18446744073709551615 → most_weight < weight → within_limits g ≡ Err fault.Limit
+judges_not g weight is heavy = ap (λ b. if b then Ok g else Err fault.Limit) (not_fitting (fits g) refl)
+  where
+    not_fitting : (b : Bool) → fits g ≡ b → b ≡ false
+    not_fitting false e = refl
+    not_fitting true e = absurd (omega (arith, is, heavy, fits_weight (Fits-from_fits g e)))
+
+pub judged_ok : (opened now : VaultMap) (key : ℕ) (outcome : Outcome) (r : Result (Unit {0}) CookStop) → ((g : Geo) → at now.geos key ≡ Some g → Judges g r) → Makes opened now key outcome (Ok tt) → Makes opened now key (limited outcome) r
+judged_ok opened now key outcome (Ok done) judge (g, is, ch) = (g, ap limited is ∙ judge g ch.geos.here, ch)
+judged_ok opened now key outcome (Err (stop.Fault f)) judge (g, is, ch) = (ap limited is ∙ judge g ch.geos.here, touched_changed opened now key g ch)
+judged_ok opened now key outcome (Err stop.Memory) judge (g, is, ch) = absurd (judge g ch.geos.here)
+
+-- ---- the whole node
+added_then : (a b c : VaultMap) (key : ℕ) (x y : Option Geo) → Added a b key x → Changed b c key y → Added a c key y
+added_then a b c key x y first second = record {
+  geos = record { was_free = first.geos.was_free; here = second.geos.here; others = λ other apart. second.geos.others other apart ∙ first.geos.others other apart };
+  held = λ other apart. second.held other apart ∙ first.held other apart;
+  names = grows_then a.names b.names c.names first.names second.names;
+}
+
+module _ (first opened now new : VaultMap) (key : ℕ) (g : Geo) (add : Added first opened key (Some g)) where
+  -- what was made stays
+  pub gives_made : (outcome : Outcome) → Makes opened now key outcome (Ok tt) → Gives first now outcome (Ok key)
+  gives_made outcome (h, is, ch) = (h, is, added_then first opened now key (Some g) (Some h) add ch)
+
+  geo_back : Touched opened now key → Changed now new key None → (k : ℕ) → (k ≡ key) ⊎ (k ≢ key) → at new.geos k ≡ at first.geos k
+  geo_back touched gone k (inl same) = ap (at new.geos) same ∙ gone.geos.here ∙ sym add.geos.was_free ∙ sym (ap (at first.geos) same)
+  geo_back touched gone k (inr apart) = gone.geos.others k apart ∙ touched.geos k apart ∙ add.geos.others k apart
+
+  held_back : Touched opened now key → Changed now new key None → (k : ℕ) → IsLive first.geos k → (k ≡ key) ⊎ (k ≢ key) → at new.held k ≡ at first.held k
+  held_back touched gone k live (inl same) = absurd (let no : is_some (at first.geos k) ≡ false = ap (λ k. is_some (at first.geos k)) same ∙ ap is_some add.geos.was_free in false≢true (sym no ∙ live))
+  held_back touched gone k live (inr apart) = gone.held k apart ∙ touched.held k apart ∙ add.held k apart
+
+  kept_back : Touched opened now key → Changed now new key None → IsKept first new
+  kept_back touched gone = record {
+    geos = λ k. geo_back touched gone k (same_or k key);
+    held = λ k live. held_back touched gone k live (same_or k key);
+    names = grows_then first.names opened.names new.names add.names (grows_then opened.names now.names new.names touched.names gone.names);
+  }
+
+  -- what stopped is gone
+  pub gives_stopped : (outcome : Outcome) (s : CookStop) → Makes opened now key outcome (Err s) → Changed now new key None → Gives first new outcome (Err s)
+  gives_stopped outcome (stop.Fault f) (is, touched) gone = (is, kept_back touched gone)
+  gives_stopped outcome stop.Memory touched gone = kept_back touched gone
+
+-- a call of a vault that gave no key
+pub gives_none : (old new : VaultMap) (outcome : Outcome) → IsAsBefore old new → Gives old new outcome (Err stop.Memory)
+gives_none old new outcome same = record { geos = same.geos; held = λ key live. same.held key; names = same.names }
+
+-- a key that was added stands for what it was added for
+pub made_at_once : (v : VaultMap) (key : ℕ) (g : Geo) → at v.geos key ≡ Some g → Makes v v key (Ok g) (Ok tt)
+made_at_once v key g there = (g, refl, record { geos = record { here = there; others = λ other apart. refl }; held = λ other apart. refl; names = grows_none v.names })

@@ -15,7 +15,7 @@ use Rattle.sop_net.specs.NodeTable.{parms_of}
 use Rattle.sop_net.specs.Network.{parm_at}
 use Rattle.sop_basic.specs.Loads.{FileMap}
 use Rattle.sop_basic.specs.ParmTexts.{count_in}
-use Rattle.sop_basic.specs.Outcomes.{Outcome, then_with, within_limits}
+use Rattle.sop_basic.specs.Outcomes.{Outcome, limited}
 use Rattle.sop_basic.specs.Selecting.{Selecting, everything}
 use Rattle.sop_basic.specs.File.{file_geo}
 use Rattle.sop_basic.specs.Add.{add_geo}
@@ -66,7 +66,7 @@ made_by (Some maker) select files parms inputs = maker select files parms inputs
 
 -- what a node gives
 abbrev pub basic_geo : Selecting → FileMap → NodeType → List (List ℕ) → List (Option Geo) → Outcome
-basic_geo select files node_type parms inputs = then_with (made_by (maker_of node_type) select files parms inputs) within_limits
+basic_geo select files node_type parms inputs = limited (made_by (maker_of node_type) select files parms inputs)
 
 -- PATTERNS THAT CAN'T BE READ YET
 

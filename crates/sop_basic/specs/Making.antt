@@ -12,7 +12,7 @@ use Rattle.sop_vault.specs.declared.vault_end.VaultEnd.{VaultEnd}
 use Rattle.sop_vault.specs.declared.vault_end.VaultEnd.TheVariants as end
 use Rattle.sop_vault.specs.Keyed.{at, IsLive, AreSame}
 use Rattle.sop_vault.specs.Vaults.{VaultMap, Changed, Added}
-use Rattle.sop_basic.specs.Outcomes.{Outcome}
+use Rattle.sop_basic.specs.Outcomes.{Outcome, within_limits}
 use Rattle.sop_basic.specs.Shapes.{shape}
 
 -- no key but this one changed, nor its pages, and a geometry still stands at it
@@ -31,7 +31,7 @@ Makes old new key outcome (Err stop.Memory) = Touched old new key
 -- every key stands for what it stood for, and holds the pages that it held; only names may have come
 pub record IsKept (old new : VaultMap) : Type 0 where
   pub geos : AreSame old.geos new.geos
-  pub held : AreSame old.held new.held
+  pub held : (key : ℕ) → IsLive old.geos key → at new.held key ≡ at old.held key
   pub names : Grows old.names new.names
 
 -- A node: a new key has the outcome's geometry, or the node ends with the outcome's fault, or for want of memory; no other key changes.
@@ -44,6 +44,12 @@ Gives old new outcome (Err stop.Memory) = IsKept old new
 abbrev pub stop_of : VaultEnd → CookStop
 stop_of end.Limit = stop.Fault Limit
 stop_of other = stop.Memory
+
+-- the limits of the geometry at a key are kept, or they aren't
+abbrev pub Judges : Geo → Result (Unit {0}) CookStop → Type 0
+Judges g (Ok done) = within_limits g ≡ Ok g
+Judges g (Err (stop.Fault f)) = within_limits g ≡ Err f
+Judges g (Err stop.Memory) = ⊥
 
 -- points alone stand at a key, at most as many as there may be
 pub record HasPoints (v : VaultMap) (key : ℕ) : Type 0 where

@@ -22,6 +22,10 @@ then_with (Err e) go = Err e
 abbrev pub within_limits : Geo → Outcome
 within_limits g = if fits g then Ok g else Err Limit
 
+-- the outcome, where its geometry passes no limit: the last of a node's faults
+abbrev pub limited : Outcome → Outcome
+limited outcome = then_with outcome within_limits
+
 -- a vector of three results
 abbrev pub vector_of : Result ℤ NumFault → Result ℤ NumFault → Result ℤ NumFault → Result Vec3 NumFault
 vector_of x y z = then_with x (λ x. then_with y (λ y. then_with z (λ z. Ok (record { x = x; y = y; z = z }))))

@@ -5,10 +5,12 @@ ghost use Rattle.sop_net.specs.declared.node_type.NodeType.TheVariants as type;
 ghost use Rattle.sop_net.specs.NodeTable.{parms_of};
 ghost use Rattle.sop_net.specs.Network.{AreValues};
 ghost use Rattle.sop_vault.specs.Keyed.{at};
-ghost use Rattle.sop_basic.specs.Making.{Makes};
+ghost use Rattle.sop_basic.specs.Making.{Makes, Gives};
+ghost use Rattle.sop_basic.specs.Outcomes.{limited};
 ghost use Rattle.sop_basic.specs.Box.{side, box_geo};
 ghost use Rattle.sop_basic.specs.Rules.{box_in, box_rule, side_corners, tells_all, box_made};
 
+use crate::making::finish;
 use crate::movement::{Movement, make_points};
 use crate::parm_texts::vector_in;
 use crate::parts::part_of;
@@ -83,14 +85,15 @@ impl Quads for Sides {
     }
 }
 
-/// Makes the box of a node at a key of the empty geometry. `Range` names the first point that is out of range.
-pub fn cook_box<'b>(vault: &mut Vault<'b>, key: GeoKey, parms: &Parms) -> Result<(), CookStop>
-    requires fresh { at vault.old.geos key ≡ Some empty_geo }
-    requires values { AreValues (parms_of type.Box) parms.now }
-    ensures { Makes vault.old vault.new key (box_geo parms.now) result }
+/// Cooks a `box` node: a new key. `Range` names the first point that is out of range.
+pub fn cook_box<'b>(vault: &mut Vault<'b>, parms: &Parms) -> Result<GeoKey, CookStop>
+    requires { AreValues (parms_of type.Box) parms.now }
+    ensures { Gives vault.old vault.new (limited (box_geo parms.now)) result }
 {
     let shape = BoxShape::of(parms);
-    make_box(vault, key, &shape)
+    let key = vault.empty()?;
+    let made = make_box(vault, key, &shape);
+    finish(vault, key, made)
 }
 
 fn make_box<'b>(vault: &mut Vault<'b>, key: GeoKey, shape: &BoxShape) -> Result<(), CookStop>

@@ -5,11 +5,13 @@ ghost use Rattle.sop_net.specs.declared.node_type.NodeType.TheVariants as type;
 ghost use Rattle.sop_net.specs.NodeTable.{parms_of};
 ghost use Rattle.sop_net.specs.Network.{AreValues};
 ghost use Rattle.sop_vault.specs.Keyed.{at};
-ghost use Rattle.sop_basic.specs.Making.{Makes};
+ghost use Rattle.sop_basic.specs.Making.{Makes, Gives};
+ghost use Rattle.sop_basic.specs.Outcomes.{limited};
 ghost use Rattle.sop_basic.specs.Grid.{across, grid_of, grid_geo};
 ghost use Rattle.sop_basic.specs.Rules.{grid_in, grid_rule, TellsOfGrid, quad_corners, TellsOfQuad};
 ghost use Rattle.std.specs.Prelude.{Ok};
 
+use crate::making::finish;
 use crate::movement::{Movement, make_points};
 use crate::parm_texts::{count_in, number_in, zero};
 use crate::parts::{negative, part_of};
@@ -89,14 +91,15 @@ fn across(size: Real, count: u32, i: u32) -> Real
     }
 }
 
-/// Makes the grid of a node at a key of the empty geometry.
-pub fn cook_grid<'b>(vault: &mut Vault<'b>, key: GeoKey, parms: &Parms) -> Result<(), CookStop>
-    requires fresh { at vault.old.geos key ≡ Some empty_geo }
-    requires values { AreValues (parms_of type.Grid) parms.now }
-    ensures { Makes vault.old vault.new key (grid_geo parms.now) result }
+/// Cooks a `grid` node: a new key.
+pub fn cook_grid<'b>(vault: &mut Vault<'b>, parms: &Parms) -> Result<GeoKey, CookStop>
+    requires { AreValues (parms_of type.Grid) parms.now }
+    ensures { Gives vault.old vault.new (limited (grid_geo parms.now)) result }
 {
     let grid = Grid::of(parms);
-    make_grid(vault, key, &grid)
+    let key = vault.empty()?;
+    let made = make_grid(vault, key, &grid);
+    finish(vault, key, made)
 }
 
 fn make_grid<'b>(vault: &mut Vault<'b>, key: GeoKey, grid: &Grid) -> Result<(), CookStop>

@@ -11,6 +11,7 @@ mod movement;
 mod parm_texts;
 mod parts;
 mod quads;
+mod weight;
 mod xform;
 
 pub use loaded::{Loaded, LoadedFile};

@@ -8,12 +8,13 @@ ghost use Rattle.sop_net.specs.declared.node_type.NodeType.TheVariants as type;
 ghost use Rattle.sop_net.specs.NodeTable.{parms_of};
 ghost use Rattle.sop_net.specs.Network.{AreValues};
 ghost use Rattle.sop_vault.specs.Keyed.{at};
-ghost use Rattle.sop_basic.specs.Making.{Makes, HasPoints};
+ghost use Rattle.sop_basic.specs.Making.{Makes, Gives, HasPoints};
+ghost use Rattle.sop_basic.specs.Outcomes.{limited};
 ghost use Rattle.sop_basic.specs.Shapes.{shape};
 ghost use Rattle.sop_basic.specs.Line.{way_to, along, line_through, line_geo};
 ghost use Rattle.sop_basic.specs.Rules.{line_in, line_rule, tells_of_line, line_made};
 
-use crate::making::add_prim;
+use crate::making::{add_prim, finish};
 use crate::movement::{Movement, make_points};
 use crate::parm_texts::{count_in, number_in, vector_in, zero};
 use crate::parts::part_of;
@@ -83,19 +84,19 @@ fn along(origin: Real, dir: Real, t: Real) -> Result<Real, NumFault>
     origin.add(way)
 }
 
-/// Makes the line of a node at a key of the empty geometry. `Range` names the first point that is out of range.
+/// Cooks a `line` node: a new key. `Range` names the first point that is out of range.
 pub fn cook_line<'b>(
     alloc: Global,
     vault: &mut Vault<'b>,
-    key: GeoKey,
     parms: &Parms,
-) -> Result<(), CookStop>
-    requires fresh { at vault.old.geos key ≡ Some empty_geo }
-    requires values { AreValues (parms_of type.Line) parms.now }
-    ensures { Makes vault.old vault.new key (line_geo parms.now) result }
+) -> Result<GeoKey, CookStop>
+    requires { AreValues (parms_of type.Line) parms.now }
+    ensures { Gives vault.old vault.new (limited (line_geo parms.now)) result }
 {
     let line = Line::of(parms);
-    make_line(alloc, vault, key, &line)
+    let key = vault.empty()?;
+    let made = make_line(alloc, vault, key, &line);
+    finish(vault, key, made)
 }
 
 fn make_line<'b>(

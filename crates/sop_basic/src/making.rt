@@ -1,32 +1,65 @@
 // Steps that make the geometry of a new key, and what becomes of the key where a step stops.
-ghost use Rattle.std.specs.Prelude.{◌≡◌, ◌<◌, Some, None, Ok, Err, OnOk, IfErr, length};
+ghost use Rattle.std.specs.Prelude.{◌≡◌, Some, Ok};
 ghost use Rattle.sop_model.specs.declared.geo.Geo.{Geo};
 ghost use Rattle.sop_model.specs.Geometry.{IsWithin};
 ghost use Rattle.sop_model.specs.Rows.{points_added, prim_added, ArePoints};
 ghost use Rattle.sop_vault.specs.Keyed.{at, IsLive};
-ghost use Rattle.sop_vault.specs.Vaults.{Changed};
-ghost use Rattle.sop_basic.specs.Making.{Makes, stop_of};
+ghost use Rattle.sop_vault.specs.Vaults.{VaultMap, Added};
+ghost use Rattle.sop_basic.specs.Outcomes.{Outcome, limited, within_limits};
+ghost use Rattle.sop_basic.specs.Making.{Makes, Gives, Judges, stop_of};
 
+use crate::weight::weight_of;
+use sop_model::limits::MOST_WEIGHT;
 use sop_model::{CookStop, Fault};
 use sop_vault::{GeoKey, Vault, VaultEnd};
 
-/// The key, where its geometry was made. Where a step stopped, the key goes.
-pub fn finished<'b>(
+/// The key, where its geometry was made and passes no limit. Where a step stopped, or a limit is passed, the key goes.
+pub fn finish<'b>(
     vault: &mut Vault<'b>,
     key: GeoKey,
     made: Result<(), CookStop>,
 ) -> Result<GeoKey, CookStop>
     requires { IsLive vault.old.geos key }
-    ensures ok { OnOk made ((result ≡ Ok key) × (vault.new ≡ vault.old)) }
-    ensures err { IfErr made (λ stop. (result ≡ Err stop) × Changed vault.old vault.new key None) }
+    ensures { (first opened : VaultMap) (g : Geo) (outcome : Outcome) → Added first opened key (Some g) → Makes opened vault.old key outcome made → Gives first vault.new (limited outcome) result }
 {
-    match made {
+    match judged(vault, key, made) {
         Ok(()) => Ok(key),
         Err(stop) => {
             vault.drop_geo(key);
             Err(stop)
         }
     }
+}
+
+/// What was made, or that it passes a limit.
+fn judged<'b>(vault: &Vault<'b>, key: GeoKey, made: Result<(), CookStop>) -> Result<(), CookStop>
+    requires { IsLive vault.now.geos key }
+    ensures { (opened : VaultMap) (outcome : Outcome) → Makes opened vault.now key outcome made → Makes opened vault.now key (limited outcome) result }
+{
+    match made {
+        Ok(()) => judge(vault, key),
+        Err(stop) => Err(stop),
+    }
+}
+
+/// Whether the geometry at a key passes no limit: a vault asks all but the weight.
+fn judge<'b>(vault: &Vault<'b>, key: GeoKey) -> Result<(), CookStop>
+    requires { IsLive vault.now.geos key }
+    ensures { (g : Geo) → at vault.now.geos key ≡ Some g → Judges g result }
+{
+    if weight_of(&vault.view(key)) > MOST_WEIGHT {
+        return Err(CookStop::Fault(Fault::Limit));
+    }
+    Ok(())
+}
+
+/// A new key of the same geometry, which passes no limit.
+pub fn hand_on<'b>(vault: &mut Vault<'b>, input: GeoKey) -> Result<GeoKey, CookStop>
+    requires { IsLive vault.old.geos input }
+    ensures { (g : Geo) → at vault.old.geos input ≡ Some g → Gives vault.old vault.new (within_limits g) result }
+{
+    let key = vault.share(input)?;
+    finish(vault, key, Ok(()))
 }
 
 /// What the end of a call of a vault is at a node.

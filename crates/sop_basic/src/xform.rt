@@ -5,11 +5,13 @@ ghost use Rattle.sop_net.specs.declared.node_type.NodeType.TheVariants as type;
 ghost use Rattle.sop_net.specs.NodeTable.{parms_of};
 ghost use Rattle.sop_net.specs.Network.{AreValues};
 ghost use Rattle.sop_vault.specs.Keyed.{at, IsLive};
-ghost use Rattle.sop_basic.specs.Making.{Makes};
+ghost use Rattle.sop_basic.specs.Making.{Gives};
 ghost use Rattle.sop_basic.specs.Selecting.{everything};
+ghost use Rattle.sop_basic.specs.Outcomes.{limited};
 ghost use Rattle.sop_basic.specs.Xform.{scaled, xform_geo};
 ghost use Rattle.sop_basic.specs.Rules.{move_in, move_rule, tells_all};
 
+use crate::making::finish;
 use crate::movement::{Movement, move_points};
 use crate::parm_texts::vector_in;
 use sop_fixed::{NumFault, Real, Vec3};
@@ -60,12 +62,18 @@ fn scaled(place: Real, scale: Real, by: Real) -> Result<Real, NumFault>
     way.add(by)
 }
 
-/// Moves all points of the geometry at a key. `Range` names the first that goes out of range.
-pub fn cook_xform<'b>(vault: &mut Vault<'b>, key: GeoKey, parms: &Parms) -> Result<(), CookStop>
-    requires live { IsLive vault.old.geos key }
+/// Cooks an `xform` node whose `group` has no word: a new key. `Range` names the first point that goes out of range.
+pub fn cook_xform<'b>(
+    vault: &mut Vault<'b>,
+    parms: &Parms,
+    input: GeoKey,
+) -> Result<GeoKey, CookStop>
+    requires live { IsLive vault.old.geos input }
     requires values { AreValues (parms_of type.Xform) parms.now }
-    ensures { (g : Geo) → at vault.old.geos key ≡ Some g → Makes vault.old vault.new key (xform_geo everything parms.now g) result }
+    ensures { (g : Geo) → at vault.old.geos input ≡ Some g → Gives vault.old vault.new (limited (xform_geo everything parms.now g)) result }
 {
     let movement = Move::of(parms);
-    move_points(vault, key, &movement)
+    let key = vault.share(input)?;
+    let made = move_points(vault, key, &movement);
+    finish(vault, key, made)
 }
