@@ -9,3 +9,6 @@ pub mod NumberLemmas
 pub mod GridLemmas
 pub mod XformLemmas
 pub mod WeightLemmas
+pub mod RowsLemmas
+pub mod FillLemmas
+pub mod HeadLemmas

@@ -16,7 +16,7 @@ use Rattle.sop_columns.proofs.NameLemmas.{grows_none, grows_then}
 use Rattle.sop_vault.specs.Keyed.{at, IsLive}
 use Rattle.sop_vault.specs.Vaults.{VaultMap, Changed, Added, IsAsBefore}
 use Rattle.sop_basic.specs.Outcomes.{Outcome, then_with, limited, within_limits}
-use Rattle.sop_basic.specs.Making.{Touched, Makes, IsKept, Gives, Judges}
+use Rattle.sop_basic.specs.Making.{Touched, Makes, Prepares, IsKept, Gives, Judges}
 
 -- what is said of the geometry that stands there
 pub if_there : (o : Option Geo) (P : Geo → Type 0) (g : Geo) → o ≡ Some g → IfSome o P → P g
@@ -144,3 +144,13 @@ gives_none old new outcome same = record { geos = same.geos; held = λ key live.
 -- a key that was added stands for what it was added for
 pub made_at_once : (v : VaultMap) (key : ℕ) (g : Geo) → at v.geos key ≡ Some g → Makes v v key (Ok g) (Ok tt)
 made_at_once v key g there = (g, refl, record { geos = record { here = there; others = λ other apart. refl }; held = λ other apart. refl; names = grows_none v.names })
+
+-- what is made needs no more than to be judged
+pub prepares_of : (a b : VaultMap) (key : ℕ) (outcome : Outcome) (r : Result (Unit {0}) CookStop) → Makes a b key outcome r → Prepares a b key outcome r
+prepares_of a b key outcome (Ok done) made = made
+prepares_of a b key outcome (Err (stop.Fault f)) (is, touched) = (ap limited is, touched)
+prepares_of a b key outcome (Err stop.Memory) touched = touched
+
+pub judged_err : (opened now : VaultMap) (key : ℕ) (outcome : Outcome) (s : CookStop) → Prepares opened now key outcome (Err s) → Makes opened now key (limited outcome) (Err s)
+judged_err opened now key outcome (stop.Fault f) ended = ended
+judged_err opened now key outcome stop.Memory ended = ended

@@ -42,7 +42,7 @@ pub record IsMoving (rule : Rule) (g : Geo) (old now : VaultMap) (key i : ℕ) :
   pub state : Changed old now key (Some (record g { points = front ++ drop i g.points }))
   pub whole : rows_moved rule 0 g.points ≡ put_before front (rows_moved rule i (drop i g.points))
 
-split_at : {A : Type 0} (xs : List A) (i : ℕ) (d : A) → i < length xs → drop i xs ≡ get_or xs i d ∷ drop (suc i) xs
+pub split_at : {A : Type 0} (xs : List A) (i : ℕ) (d : A) → i < length xs → drop i xs ≡ get_or xs i d ∷ drop (suc i) xs
 split_at [] i d lt = absurd (omega arith)
 split_at (x ∷ xs) zero d lt = refl
 split_at (x ∷ xs) (suc i) d lt = split_at xs i d (omega arith)
@@ -52,7 +52,7 @@ row_behind : {A : Type 0} (front rest : List A) (row d : A) → get_or (front ++
 row_behind [] rest row d = refl
 row_behind (x ∷ front) rest row d = row_behind front rest row d
 
-changed_behind : {A : Type 0} (f : A → A) (front rest : List A) (row : A) → changed_at f (front ++ row ∷ rest) (length front) ≡ (front ++ f row ∷ []) ++ rest
+pub changed_behind : {A : Type 0} (f : A → A) (front rest : List A) (row : A) → changed_at f (front ++ row ∷ rest) (length front) ≡ (front ++ f row ∷ []) ++ rest
 changed_behind f [] rest row = refl
 changed_behind f (x ∷ front) rest row = ap (λ r. x ∷ r) (changed_behind f front rest row)
 
@@ -151,7 +151,7 @@ module _ (rule : Rule) (g : Geo) (old now new : VaultMap) (key i : ℕ) (lt : i 
   pub moving_stopped : (s : CookStop) → ((h : Geo) → at now.geos key ≡ Some h → Makes now new key (point_moved rule h i) (Err s)) → Makes old new key (points_moved rule g) (Err s)
   moving_stopped s made = stops_with s (made geo_here state_here.geos.here)
 
-drop_all : {A : Type 0} (xs : List A) → drop (length xs) xs ≡ []
+pub drop_all : {A : Type 0} (xs : List A) → drop (length xs) xs ≡ []
 drop_all [] = refl
 drop_all (x ∷ xs) = drop_all xs
 

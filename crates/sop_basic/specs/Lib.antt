@@ -17,3 +17,4 @@ pub mod Basic
 pub mod Making
 pub mod Movements
 pub mod Rules
+pub mod Fillings

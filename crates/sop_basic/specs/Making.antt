@@ -12,7 +12,7 @@ use Rattle.sop_vault.specs.declared.vault_end.VaultEnd.{VaultEnd}
 use Rattle.sop_vault.specs.declared.vault_end.VaultEnd.TheVariants as end
 use Rattle.sop_vault.specs.Keyed.{at, IsLive, AreSame}
 use Rattle.sop_vault.specs.Vaults.{VaultMap, Changed, Added}
-use Rattle.sop_basic.specs.Outcomes.{Outcome, within_limits}
+use Rattle.sop_basic.specs.Outcomes.{Outcome, limited, within_limits}
 use Rattle.sop_basic.specs.Shapes.{shape}
 
 -- no key but this one changed, nor its pages, and a geometry still stands at it
@@ -27,6 +27,12 @@ abbrev pub Makes : VaultMap → VaultMap → ℕ → Outcome → Result (Unit {0
 Makes old new key outcome (Ok done) = (g : Geo) × (outcome ≡ Ok g) × Changed old new key (Some g)
 Makes old new key outcome (Err (stop.Fault f)) = (outcome ≡ Err f) × Touched old new key
 Makes old new key outcome (Err stop.Memory) = Touched old new key
+
+-- The same where the limits of the outcome's geometry are still to be judged: a step may stop at Limit before.
+abbrev pub Prepares : VaultMap → VaultMap → ℕ → Outcome → Result (Unit {0}) CookStop → Type 0
+Prepares old new key outcome (Ok done) = (g : Geo) × (outcome ≡ Ok g) × Changed old new key (Some g)
+Prepares old new key outcome (Err (stop.Fault f)) = (limited outcome ≡ Err f) × Touched old new key
+Prepares old new key outcome (Err stop.Memory) = Touched old new key
 
 -- every key stands for what it stood for, and holds the pages that it held; only names may have come
 pub record IsKept (old new : VaultMap) : Type 0 where

@@ -3,7 +3,10 @@
 #![tactic(auto)]
 
 mod box_node;
+mod enumerate;
+mod filling;
 mod grid;
+mod heads;
 mod line;
 mod loaded;
 mod making;

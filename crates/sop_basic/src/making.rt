@@ -6,7 +6,7 @@ ghost use Rattle.sop_model.specs.Rows.{points_added, prim_added, ArePoints};
 ghost use Rattle.sop_vault.specs.Keyed.{at, IsLive};
 ghost use Rattle.sop_vault.specs.Vaults.{VaultMap, Added};
 ghost use Rattle.sop_basic.specs.Outcomes.{Outcome, limited, within_limits};
-ghost use Rattle.sop_basic.specs.Making.{Makes, Gives, Judges, stop_of};
+ghost use Rattle.sop_basic.specs.Making.{Makes, Prepares, Gives, Judges, stop_of};
 
 use crate::weight::weight_of;
 use sop_model::limits::MOST_WEIGHT;
@@ -20,7 +20,7 @@ pub fn finish<'b>(
     made: Result<(), CookStop>,
 ) -> Result<GeoKey, CookStop>
     requires { IsLive vault.old.geos key }
-    ensures { (first opened : VaultMap) (g : Geo) (outcome : Outcome) → Added first opened key (Some g) → Makes opened vault.old key outcome made → Gives first vault.new (limited outcome) result }
+    ensures { (first opened : VaultMap) (g : Geo) (outcome : Outcome) → Added first opened key (Some g) → Prepares opened vault.old key outcome made → Gives first vault.new (limited outcome) result }
 {
     match judged(vault, key, made) {
         Ok(()) => Ok(key),
@@ -34,7 +34,7 @@ pub fn finish<'b>(
 /// What was made, or that it passes a limit.
 fn judged<'b>(vault: &Vault<'b>, key: GeoKey, made: Result<(), CookStop>) -> Result<(), CookStop>
     requires { IsLive vault.now.geos key }
-    ensures { (opened : VaultMap) (outcome : Outcome) → Makes opened vault.now key outcome made → Makes opened vault.now key (limited outcome) result }
+    ensures { (opened : VaultMap) (outcome : Outcome) → Prepares opened vault.now key outcome made → Makes opened vault.now key (limited outcome) result }
 {
     match made {
         Ok(()) => judge(vault, key),
