@@ -6,3 +6,5 @@ pub mod Goodness
 mod Steps
 mod Writing
 mod Examples
+pub mod Listed
+mod ListingExamples

@@ -12,7 +12,7 @@ use Rattle.sop_net.specs.Sockets.{Socket, sockets_from, sockets_of}
 use Rattle.sop_net.proofs.ReadLemmas.{read_node}
 use Rattle.sop_cook.specs.declared.cook_end.CookEnd.{CookEnd}
 use Rattle.sop_cook.specs.declared.cook_end.CookEnd.TheVariants as end
-use Rattle.sop_cook.specs.Loads.{FileMap}
+use Rattle.sop_basic.specs.Loads.{FileMap}
 use Rattle.sop_cook.specs.Made.{made, is_built}
 use Rattle.sop_cook.specs.Visit.{Outcome, at_node, Visit, ask, ask_all, visit_if, visit}
 use Rattle.sop_cook.specs.SerialCook.{run, cook_of}

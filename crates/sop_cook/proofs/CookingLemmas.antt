@@ -6,7 +6,7 @@ use Rattle.sop_net.specs.Sockets.{Socket, sockets_of}
 use Rattle.sop_net.proofs.UsedLemmas.{wired_at}
 use Rattle.sop_net.specs.declared.node.Node.{Node}
 use Rattle.sop_cook.specs.declared.serial.Cooking.{Cooking}
-use Rattle.sop_cook.specs.Loads.{file_in}
+use Rattle.sop_basic.specs.Loads.{file_in}
 use Rattle.sop_cook.specs.Visit.{Outcome}
 use Rattle.sop_cook.specs.SerialCook.{cook_of}
 use Rattle.sop_cook.specs.Parts.{IsKept}

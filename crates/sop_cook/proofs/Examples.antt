@@ -6,8 +6,8 @@ use Rattle.sop_net.specs.declared.node_type.NodeType.{NodeType}
 use Rattle.sop_net.specs.declared.node_type.NodeType.TheVariants as type
 use Rattle.sop_net.specs.declared.node.Node.{Node}
 use Rattle.sop_net.specs.Sockets.{Socket}
-use Rattle.sop_cook.specs.declared.loaded.LoadedFile.TheVariants.{Bytes, Missing, TooLong}
-use Rattle.sop_cook.specs.Loads.{FileMap}
+use Rattle.sop_basic.specs.declared.loaded.LoadedFile.TheVariants.{Bytes, Missing, TooLong}
+use Rattle.sop_basic.specs.Loads.{FileMap}
 use Rattle.sop_cook.specs.Visit.{Outcome, failed, Visit, ask_all, visit}
 use Rattle.sop_cook.specs.SerialCook.{run, cook_of}
 

@@ -15,9 +15,9 @@ use Rattle.sop_net.specs.declared.node_type.NodeType.TheVariants as type
 use Rattle.sop_net.specs.declared.node.Node.{Node}
 use Rattle.sop_net.specs.Network.{node_of, parm_at, used_sources, IsLive}
 use Rattle.sop_net.specs.Needs.{file_of_node, file_of_type}
-use Rattle.sop_cook.specs.declared.loaded.LoadedFile.{LoadedFile}
-use Rattle.sop_cook.specs.declared.loaded.LoadedFile.TheVariants.{Bytes, Missing, TooLong}
-use Rattle.sop_cook.specs.Loads.{FileMap}
+use Rattle.sop_basic.specs.declared.loaded.LoadedFile.{LoadedFile}
+use Rattle.sop_basic.specs.declared.loaded.LoadedFile.TheVariants.{Bytes, Missing, TooLong}
+use Rattle.sop_basic.specs.Loads.{FileMap}
 use Rattle.sop_cook.specs.Made.{unrefused, file_geo, merge_geo, given, only, maker_of, made_by, made}
 use Rattle.sop_cook.specs.Visit.{Outcome, Failure, failed, at_node, Visit, visit}
 use Rattle.sop_cook.specs.SerialCook.{run, cooked, cook_of}

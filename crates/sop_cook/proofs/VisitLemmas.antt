@@ -11,7 +11,7 @@ use Rattle.sop_net.specs.declared.node.Node.{Node}
 use Rattle.sop_net.specs.Network.{node_of, wire_at, wires_of, parm_at, switch_input, used_wires, wires_used_by}
 use Rattle.sop_net.specs.Sockets.{Socket, sockets_from, first_used, needs_inputs, sockets_of}
 use Rattle.sop_net.proofs.UsedLemmas.{wired_at}
-use Rattle.sop_cook.specs.Loads.{FileMap}
+use Rattle.sop_basic.specs.Loads.{FileMap}
 use Rattle.sop_cook.specs.Made.{file_geo, maker_of, made_by, made, is_built}
 use Rattle.sop_cook.specs.Visit.{Outcome, failed, at_node, Visit, ask, ask_all, visit_if, visit}
 use Rattle.sop_cook.specs.SerialCook.{then_with, run}

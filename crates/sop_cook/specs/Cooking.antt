@@ -3,7 +3,7 @@ use Rattle.std.specs.Prelude.{◌≡◌, ℕ, List}
 use Rattle.sop_net.specs.declared.node.Node.{Node}
 use Rattle.sop_vault.specs.Vaults.{VaultMap}
 use Rattle.sop_cook.specs.declared.serial.Cooking.{Cooking}
-use Rattle.sop_cook.specs.Loads.{file_in}
+use Rattle.sop_basic.specs.Loads.{file_in}
 use Rattle.sop_cook.specs.Visit.{Outcome}
 use Rattle.sop_cook.specs.SerialCook.{cook_of}
 use Rattle.sop_cook.specs.Keys.{keys_in}

@@ -5,8 +5,8 @@ use Rattle.sop_net.specs.declared.node.Node.{Node}
 use Rattle.sop_net.specs.Graph.{Reaches}
 use Rattle.sop_net.specs.Network.{node_of, wire_at, wires_of, used_sources}
 use Rattle.sop_net.specs.Needs.{file_of}
-use Rattle.sop_cook.specs.declared.loaded.LoadedFile.TheVariants.{Missing}
-use Rattle.sop_cook.specs.Loads.{FileMap}
+use Rattle.sop_basic.specs.declared.loaded.LoadedFile.TheVariants.{Missing}
+use Rattle.sop_basic.specs.Loads.{FileMap}
 use Rattle.sop_cook.specs.Visit.{Visit}
 
 -- each question of a visit, for an input and its source, is as P says

@@ -1,4 +1,3 @@
-pub mod Loads
 pub mod Made
 pub mod Visit
 pub mod SerialCook

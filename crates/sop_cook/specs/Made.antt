@@ -15,9 +15,9 @@ use Rattle.sop_net.specs.declared.node_type.NodeType.{NodeType}
 use Rattle.sop_net.specs.declared.node_type.NodeType.TheVariants as type
 use Rattle.sop_net.specs.declared.node.Node.{Node}
 use Rattle.sop_net.specs.Network.{parm_at}
-use Rattle.sop_cook.specs.declared.loaded.LoadedFile.{LoadedFile}
-use Rattle.sop_cook.specs.declared.loaded.LoadedFile.TheVariants.{Bytes, Missing, TooLong}
-use Rattle.sop_cook.specs.Loads.{FileMap}
+use Rattle.sop_basic.specs.declared.loaded.LoadedFile.{LoadedFile}
+use Rattle.sop_basic.specs.declared.loaded.LoadedFile.TheVariants.{Bytes, Missing, TooLong}
+use Rattle.sop_basic.specs.Loads.{FileMap}
 
 -- what a text that is refused gives
 abbrev pub unrefused : Result Geo Refusal → Result Geo Fault

@@ -8,7 +8,7 @@ use Rattle.sop_model.specs.declared.fault.Fault.{Fault}
 use Rattle.sop_model.specs.declared.fault.Fault.TheVariants as fault
 use Rattle.sop_net.specs.declared.node.Node.{Node}
 use Rattle.sop_net.specs.Sockets.{Socket, sockets_of}
-use Rattle.sop_cook.specs.Loads.{FileMap}
+use Rattle.sop_basic.specs.Loads.{FileMap}
 use Rattle.sop_cook.specs.Made.{made, is_built}
 
 -- a fault and the number of its node

@@ -1,7 +1,7 @@
 //! The laws of the cook.
 ghost use Rattle.std.specs.Prelude.{◌≡◌, ℕ};
 ghost use Rattle.sop_net.specs.Network.{node_of, IsLive};
-ghost use Rattle.sop_cook.specs.Loads.{FileMap};
+ghost use Rattle.sop_basic.specs.Loads.{FileMap};
 ghost use Rattle.sop_cook.specs.Visit.{visit};
 ghost use Rattle.sop_cook.specs.SerialCook.{run, cook_of};
 ghost use Rattle.sop_cook.specs.Laws.{Asks, IsUsedWire, AreAlike};

@@ -4,7 +4,6 @@
 mod cook_end;
 mod kept;
 mod law;
-mod loaded;
 mod make;
 mod merge;
 mod serial;
@@ -12,8 +11,8 @@ mod uses;
 
 pub use cook_end::CookEnd;
 pub use law::cook_runs_visits;
-pub use loaded::{Loaded, LoadedFile};
 pub use serial::cook;
+pub use sop_basic::{Loaded, LoadedFile};
 
 #[cfg(test)]
 mod tests;

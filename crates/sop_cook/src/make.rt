@@ -2,13 +2,13 @@
 ghost use Rattle.std.specs.Prelude.{◌≡◌, [], All, Ok, IfOk, IfErr, IfSome};
 ghost use Rattle.sop_net.specs.Network.{IsLive, node_of};
 ghost use Rattle.sop_vault.specs.Passing.{Passes, Owns};
-ghost use Rattle.sop_cook.specs.Loads.{file_in};
+ghost use Rattle.sop_basic.specs.Loads.{file_in};
 ghost use Rattle.sop_cook.specs.Made.{file_geo, is_built, made, only};
 ghost use Rattle.sop_cook.specs.Ends.{geo_at, seen, IsReady};
 ghost use Rattle.sop_cook.specs.Keys.{inputs_seen, key_of, IsReadyAt};
 ghost use Rattle.sop_cook.specs.Parts.{TellsMade};
 
-use crate::loaded::{Loaded, LoadedFile};
+use sop_basic::{Loaded, LoadedFile};
 use crate::merge::{merge, stop_of};
 use geo_text::{ObjFault, read_obj};
 use sop_model::{CookStop, Fault, Geo};

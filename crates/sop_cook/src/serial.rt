@@ -8,7 +8,7 @@ ghost use Rattle.sop_net.specs.Sockets.{sockets_of};
 ghost use Rattle.sop_vault.specs.Keyed.{at};
 ghost use Rattle.sop_vault.specs.Vaults.{VaultMap, Added, HoldsAsBefore};
 ghost use Rattle.sop_vault.specs.Passing.{Passes, Owns};
-ghost use Rattle.sop_cook.specs.Loads.{file_in};
+ghost use Rattle.sop_basic.specs.Loads.{file_in};
 ghost use Rattle.sop_cook.specs.Visit.{at_node, ask, ask_all};
 ghost use Rattle.sop_cook.specs.SerialCook.{cook_of};
 ghost use Rattle.sop_cook.specs.Laws.{IsMissing};
@@ -19,7 +19,7 @@ ghost use Rattle.sop_cook.specs.Cooking.{nodes_of, keys_of, gives, IsRunning, Ru
 
 use crate::cook_end::CookEnd;
 use crate::kept::{Kept, drop_all};
-use crate::loaded::Loaded;
+use sop_basic::Loaded;
 use crate::make::{is_built, make};
 use sop_model::{CookStop, Fault};
 use sop_net::{Net, NodeId, Sockets};

@@ -16,9 +16,9 @@ use Rattle.sop_net.specs.declared.node.Node.{Node}
 use Rattle.sop_net.specs.Graph.{Steps, Reaches, Within}
 use Rattle.sop_net.specs.Network.{used_sources}
 use Rattle.sop_net.specs.Needs.{walk, file_of, is_file_named, listed, with_file, first_files, needed}
-use Rattle.sop_cook.specs.declared.loaded.LoadedFile.{LoadedFile}
-use Rattle.sop_cook.specs.declared.loaded.LoadedFile.TheVariants.{Missing}
-use Rattle.sop_cook.specs.Loads.{Loads, FileMap, file_in}
+use Rattle.sop_basic.specs.declared.loaded.LoadedFile.{LoadedFile}
+use Rattle.sop_basic.specs.declared.loaded.LoadedFile.TheVariants.{Missing}
+use Rattle.sop_basic.specs.Loads.{Loads, FileMap, file_in}
 use Rattle.sop_cook.specs.SerialCook.{cook_of}
 use Rattle.sop_cook.specs.Laws.{AreAlike, IsMissing}
 use Rattle.sopcook.specs.declared.answer.Answer.{Answer}

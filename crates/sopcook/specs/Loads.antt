@@ -4,9 +4,9 @@ use Rattle.std.specs.FinMap as finite
 use Rattle.sop_outside.specs.Load.{Names, load_of}
 use Rattle.sop_outside.specs.declared.files.LoadEnd.{LoadEnd}
 use Rattle.sop_outside.specs.declared.files.LoadEnd.TheVariants as end
-use Rattle.sop_cook.specs.declared.loaded.LoadedFile.{LoadedFile}
-use Rattle.sop_cook.specs.declared.loaded.LoadedFile.TheVariants as load
-use Rattle.sop_cook.specs.Loads.{FileMap, Loads, file_in}
+use Rattle.sop_basic.specs.declared.loaded.LoadedFile.{LoadedFile}
+use Rattle.sop_basic.specs.declared.loaded.LoadedFile.TheVariants as load
+use Rattle.sop_basic.specs.Loads.{FileMap, Loads, file_in}
 use Rattle.sop_net.specs.declared.node.Node.{Node}
 use Rattle.sop_net.specs.Needs.{file_of}
 use Rattle.sopcook.specs.Limits.{most_file_bytes}

@@ -1,6 +1,6 @@
 use Rattle.std.proofs.Common.{[], sym, ◌∙◌, ap, subst}
 use Rattle.sop_vault.proofs.PassLemmas.{passes_none}
-use Rattle.sop_cook.specs.declared.loaded.LoadedFile.TheVariants.{Bytes}
+use Rattle.sop_basic.specs.declared.loaded.LoadedFile.TheVariants.{Bytes}
 use Rattle.sop_cook.specs.Made.{file_geo}
 use Rattle.sop_cook.specs.Ends.{seen}
 use Rattle.sop_cook.specs.Parts.{TellsMade}

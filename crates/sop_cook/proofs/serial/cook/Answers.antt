@@ -4,7 +4,7 @@ use Rattle.sop_model.specs.declared.fault.Fault.{Fault}
 use Rattle.sop_model.specs.declared.fault.Fault.TheVariants as fault
 use Rattle.sop_cook.specs.declared.cook_end.CookEnd.{CookEnd}
 use Rattle.sop_cook.specs.declared.cook_end.CookEnd.TheVariants as end
-use Rattle.sop_cook.specs.Loads.{file_in}
+use Rattle.sop_basic.specs.Loads.{file_in}
 use Rattle.sop_cook.specs.Visit.{Outcome, failed}
 use Rattle.sop_cook.specs.SerialCook.{cook_of}
 use Rattle.sop_cook.specs.Laws.{IsMissing}

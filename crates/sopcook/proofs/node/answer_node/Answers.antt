@@ -7,7 +7,7 @@ use Rattle.sop_model.specs.declared.fault.Fault.TheVariants as fault
 use Rattle.sop_outside.specs.Causes.{Rose}
 use Rattle.sop_cook.specs.declared.cook_end.CookEnd.{CookEnd}
 use Rattle.sop_cook.specs.declared.cook_end.CookEnd.TheVariants as end
-use Rattle.sop_cook.specs.Loads.{file_in}
+use Rattle.sop_basic.specs.Loads.{file_in}
 use Rattle.sop_cook.specs.SerialCook.{cook_of}
 use Rattle.sopcook.specs.declared.answer.Answer.{Answer}
 use Rattle.sopcook.specs.Answer.{cook_answer}

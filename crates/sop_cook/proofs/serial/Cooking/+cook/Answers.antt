@@ -8,7 +8,7 @@ use Rattle.sop_net.specs.Sockets.{sockets_from}
 use Rattle.sop_net.proofs.UsedLemmas.{within_less}
 use Rattle.sop_vault.specs.Passing.{Passes, Owns}
 use Rattle.sop_vault.proofs.PassLemmas.{passes_none, passes_then, owns_back}
-use Rattle.sop_cook.specs.Loads.{file_in}
+use Rattle.sop_basic.specs.Loads.{file_in}
 use Rattle.sop_cook.specs.Made.{made}
 use Rattle.sop_cook.specs.Visit.{ask, ask_all}
 use Rattle.sop_cook.specs.Ends.{geo_at, seen}

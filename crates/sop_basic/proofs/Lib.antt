@@ -1,0 +1,14 @@
+mod Examples
+pub mod MakingLemmas
+pub mod MovementLemmas
+pub mod ShapeLemmas
+pub mod ParmLemmas
+pub mod QuadLemmas
+pub mod BoxLemmas
+pub mod NumberLemmas
+pub mod GridLemmas
+pub mod XformLemmas
+pub mod WeightLemmas
+pub mod RowsLemmas
+pub mod FillLemmas
+pub mod HeadLemmas

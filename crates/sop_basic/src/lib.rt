@@ -1,0 +1,20 @@
+//! The basic nodes: a file that is read, points, lines, grids and boxes that are made, inputs that are handed on, places that are
+//! moved, and attributes that come, go and count.
+#![tactic(auto)]
+
+mod box_node;
+mod enumerate;
+mod filling;
+mod grid;
+mod heads;
+mod line;
+mod loaded;
+mod making;
+mod movement;
+mod parm_texts;
+mod parts;
+mod quads;
+mod weight;
+mod xform;
+
+pub use loaded::{Loaded, LoadedFile};
