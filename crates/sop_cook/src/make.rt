@@ -8,9 +8,9 @@ ghost use Rattle.sop_cook.specs.Ends.{geo_at, seen, IsReady};
 ghost use Rattle.sop_cook.specs.Keys.{inputs_seen, key_of, IsReadyAt};
 ghost use Rattle.sop_cook.specs.Parts.{TellsMade};
 
-use sop_basic::{Loaded, LoadedFile};
 use crate::merge::{merge, stop_of};
 use geo_text::{ObjFault, read_obj};
+use sop_basic::{Loaded, LoadedFile};
 use sop_model::{CookStop, Fault, Geo};
 use sop_net::{Net, NodeId, NodeType};
 use sop_vault::{GeoKey, Vault};

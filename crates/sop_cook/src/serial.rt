@@ -19,8 +19,8 @@ ghost use Rattle.sop_cook.specs.Cooking.{nodes_of, keys_of, gives, IsRunning, Ru
 
 use crate::cook_end::CookEnd;
 use crate::kept::{Kept, drop_all};
-use sop_basic::Loaded;
 use crate::make::{is_built, make};
+use sop_basic::Loaded;
 use sop_model::{CookStop, Fault};
 use sop_net::{Net, NodeId, Sockets};
 use sop_vault::{GeoKey, Vault};
