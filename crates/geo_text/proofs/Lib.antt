@@ -6,3 +6,4 @@ pub mod Goodness
 mod Steps
 mod Writing
 mod Examples
+mod ObjExamples

@@ -2,3 +2,8 @@ pub mod ObjReading
 pub mod ObjForm
 pub mod ObjFirst
 pub mod ObjWriting
+pub mod ObjLines
+pub mod ObjStatements
+pub mod ObjMeaning
+pub mod ObjText
+pub mod Carried
