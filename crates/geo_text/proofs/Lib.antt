@@ -1,3 +1,4 @@
+pub mod ObjScanning
 pub mod Plain
 pub mod Words
 pub mod Lines

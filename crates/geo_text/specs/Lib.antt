@@ -7,3 +7,4 @@ pub mod ObjStatements
 pub mod ObjMeaning
 pub mod ObjText
 pub mod Carried
+pub mod ObjScan

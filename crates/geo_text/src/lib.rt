@@ -4,6 +4,7 @@
 mod fault;
 mod part;
 mod read;
+mod scan;
 mod sheet;
 mod write;
 

@@ -1,0 +1,23 @@
+use Rattle.std.proofs.Common.{◌≡◌, ◌++◌, ◌∙◌, sym, ap, subst, true}
+use Rattle.geo_text.specs.ObjLines.{joined}
+use Rattle.geo_text.specs.ObjScan.{is_word, is_apart}
+use Rattle.geo_text.proofs.ObjScanning.{word_here, no_word_here}
+use Rattle.geo_text.proofs.scan.next_word.Goals as goal
+
+pub returns-then-begins_word : goal.returns-then-begins_word
+returns-then-begins_word c =
+    let text = c.skip_blanks-text.result.now in
+    let front = c.split_at.ensures.front in
+    let back = c.split_at.ensures.back in
+    sym c.skip_blanks-text.ensures.words
+    ∙ word_here text c.split_at.result.0.now c.split_at.result.1.now (rw (front, back) c.word_len.ensures.text) (rw front c.word_len.ensures.word) (rw back c.word_len.ensures.rest)
+    (sym c.begins_word.ensures ∙ c.if-begins_word.true)
+
+pub returns-else-begins_word : goal.returns-else-begins_word
+returns-else-begins_word c =
+    let text = c.skip_blanks-text.result.now in
+    let front = c.split_at.ensures.front in
+    let back = c.split_at.ensures.back in
+    sym c.skip_blanks-text.ensures.words
+    ∙ no_word_here text c.split_at.result.0.now c.split_at.result.1.now (rw (front, back) c.word_len.ensures.text) (rw front c.word_len.ensures.word) (rw back c.word_len.ensures.rest)
+    (sym c.begins_word.ensures ∙ c.if-begins_word.false) c.skip_blanks-text.ensures.start
