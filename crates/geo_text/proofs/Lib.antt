@@ -1,4 +1,5 @@
 pub mod ObjScanning
+pub mod ObjVectors
 pub mod Plain
 pub mod Words
 pub mod Lines

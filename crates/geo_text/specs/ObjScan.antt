@@ -1,7 +1,9 @@
 -- Lines and words of an OBJ text that is read from its front, as private contracts speak of them.
-use Rattle.std.specs.Prelude.{ℕ, ◌+◌, Bool, true, false, not, if◌then◌else◌, ◌||◌, ◌==◌, List, [], ◌∷◌, ◌++◌, filter, Option, None, Some, option_map}
+use Rattle.std.specs.Prelude.{◌≡◌, ◌⊎◌, codes, ℕ, ◌+◌, Bool, true, false, not, if◌then◌else◌, ◌||◌, ◌==◌, List, [], ◌∷◌, ◌++◌, filter, Option, None, Some, option_map}
 use Rattle.std.specs.List.{list_all, slice_split}
 use Rattle.std.specs.Borrow.{Bor}
+use Rattle.sop_fixed.specs.declared.vec3.Vec3.{Vec3}
+use Rattle.geo_text.specs.ObjStatements.{Place}
 use Rattle.geo_text.specs.ObjLines.{joint, joined, is_filled, is_blank, before_comment, words_of}
 
 -- a byte or joint and what stands behind it
@@ -67,3 +69,10 @@ begins_word (b ∷ word) = not (b == 35)
 abbrev pub begins_blank : List ℕ → Bool
 begins_blank [] = false
 begins_blank (b ∷ text) = is_blank b
+
+abbrev pub place_from : Vec3 × Option Vec3 → Place
+place_from p = record { at = p.0; colour = p.1 }
+
+-- of some words: the first and those behind it, or the numeral zero where there are none
+abbrev pub IsNextOrZero : List (List ℕ) → List ℕ → List (List ℕ) → Type 0
+IsNextOrZero words word rest = (words ≡ word ∷ rest) ⊎ ((words ≡ []) × (word ≡ codes "0") × (rest ≡ []))

@@ -6,6 +6,7 @@ mod part;
 mod read;
 mod scan;
 mod sheet;
+mod vectors;
 mod write;
 
 pub use fault::ObjFault;

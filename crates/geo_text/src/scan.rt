@@ -1,7 +1,7 @@
 // Lines and words of an OBJ text, read from its front.
-ghost use Rattle.std.specs.Prelude.{◌≡◌, ◌∷◌, ◌++◌, ◌<◌, ◌≤◌, ◌≢◌, length, take, drop, option_map, true, false, IfSome};
+ghost use Rattle.std.specs.Prelude.{◌≡◌, ◌∷◌, ◌++◌, ◌<◌, ◌≤◌, ◌≢◌, ◌||◌, ◌==◌, length, take, drop, option_map, true, false, IfSome};
 ghost use Rattle.geo_text.specs.ObjLines.{behind_end, joined, joint, is_blank, without_mark};
-ghost use Rattle.geo_text.specs.ObjScan.{from_first, is_line_feed, joined_left, behind_line, words_here, words_left, ends_word, is_word, is_apart, begins_word, begins_blank};
+ghost use Rattle.geo_text.specs.ObjScan.{from_first, is_line_feed, joined_left, behind_line, words_here, words_left, ends_word, is_word, is_apart, begins_word, begins_blank, ends_in};
 
 /// Stands for a backslash and the end of a line behind it.
 const JOINT: u16 = 256;
@@ -125,4 +125,25 @@ fn begins_word(word: &[u8]) -> bool
         [] => false,
         [first, ..] => *first != b'#',
     }
+}
+
+/// Whether a line of the file ends here.
+fn ends_line(byte: u16) -> bool
+    ensures { result ≡ (is_line_feed byte || byte == joint) }
+{
+    is_line_feed(byte) || byte == JOINT
+}
+
+/// How many ends of lines a text has, those of joined lines too.
+pub(crate) fn ends_in(text: &[u8]) -> usize
+    ensures value { result ≡ ends_in (joined text.now) }
+    ensures within { result ≤ length text.now }
+{
+    let mut rest = text;
+    let mut count = 0;
+    while let Some((byte, more)) = next_byte(rest) {
+        count += usize::from(ends_line(byte));
+        rest = more;
+    }
+    count
 }
