@@ -1,21 +1,19 @@
 -- The definitions of OBJ, computed on small texts and geometries.
-use Rattle.std.proofs.Common.{◌≡◌, ℕ, zero, suc, List, [], ◌∷◌, ◌++◌, length, Bool, true, false, refl, Ok, Err, Some, None, Option}
-use Rattle.std.specs.Prelude.{ℤ, pos, negsuc, codes, replicate, slice_get}
+use Rattle.std.proofs.Common.{◌≡◌, ℕ, zero, suc, List, [], ◌∷◌, ◌++◌, length, Bool, true, false, refl, Ok, Err}
+use Rattle.std.specs.Prelude.{ℤ, pos, negsuc, codes, replicate}
 use Rattle.std.specs.Fmt.{digits}
-use Rattle.sop_fixed.specs.declared.vec3.Vec3.{Vec3}
 use Rattle.sop_model.specs.declared.geo.Geo.{Geo}
 use Rattle.sop_model.specs.declared.geo.Row.{Row}
 use Rattle.sop_model.specs.declared.geo.Head.{Head}
-use Rattle.sop_model.specs.declared.geo.HeadSet.{HeadSet}
 use Rattle.sop_model.specs.declared.geo.Corner.{Corner}
 use Rattle.sop_model.specs.declared.geo.Primitive.{Primitive}
 use Rattle.sop_model.specs.declared.value.Kind.TheVariants as kind
 use Rattle.sop_model.specs.declared.value.Value.{Value}
 use Rattle.sop_model.specs.declared.value.Value.TheVariants as value
-use Rattle.sop_model.specs.Geometry.{empty_row, empty_geo, no_heads, position_head}
-use Rattle.geo_text.specs.ObjLines.{Line, lines_of}
-use Rattle.geo_text.specs.ObjStatements.{Part, Absent, Ahead, Back, Wrong, Reference, reference_of, mended, statement_of, Groups, Point}
-use Rattle.geo_text.specs.ObjMeaning.{meaning, Number, Index, Limit, Shaped, group_names, is_among}
+use Rattle.sop_model.specs.Geometry.{empty_geo, position_head}
+use Rattle.geo_text.specs.ObjLines.{lines_of}
+use Rattle.geo_text.specs.ObjStatements.{Part, Absent, Ahead, Back, Wrong, Reference, reference_of, mended, statement_of, Groups}
+use Rattle.geo_text.specs.ObjMeaning.{meaning, Number, Index, Shaped, group_names, is_among}
 use Rattle.geo_text.specs.ObjText.{text_of}
 use Rattle.geo_text.specs.Carried.{carried}
 
@@ -264,7 +262,7 @@ grouped_geo =
     let corners = corner 0 [] ∷ [] in
     geo [] [] (codes "b" ∷ codes "a" ∷ codes "a_b" ∷ []) (row (origin ∷ []) ∷ [])
     (prim true (false ∷ false ∷ false ∷ []) corners ∷ prim true (true ∷ true ∷ false ∷ []) corners ∷ prim true (true ∷ true ∷ false ∷ []) corners
-      ∷ prim true (false ∷ false ∷ false ∷ []) corners ∷ prim true (false ∷ false ∷ true ∷ []) corners ∷ [])
+    ∷ prim true (false ∷ false ∷ false ∷ []) corners ∷ prim true (false ∷ false ∷ true ∷ []) corners ∷ [])
 
 grouped_means : meaning grouped ≡ Ok grouped_geo
 unfolding grouped grouped_geo geo row origin v prim corner
@@ -283,9 +281,9 @@ rich = record {
   vertex = record { heads = vector (codes "N") ∷ vector (codes "uv") ∷ []; groups = [] };
   points = record { values = origin ∷ value.Real (pos 5) ∷ right ∷ []; flags = true ∷ [] } ∷ record { values = up ∷ value.Real (pos 5) ∷ up ∷ []; flags = false ∷ [] } ∷ [];
   prims =
-    record { closed = false; row = record { values = value.Int (pos 1) ∷ []; flags = true ∷ false ∷ false ∷ [] }; corners = corner 1 (up ∷ right ∷ []) ∷ [] }
-    ∷ record { closed = true; row = record { values = value.Int (pos 2) ∷ []; flags = true ∷ false ∷ true ∷ [] }; corners = corner 0 (right ∷ up ∷ []) ∷ corner 1 (up ∷ up ∷ []) ∷ [] }
-    ∷ [];
+      record { closed = false; row = record { values = value.Int (pos 1) ∷ []; flags = true ∷ false ∷ false ∷ [] }; corners = corner 1 (up ∷ right ∷ []) ∷ [] }
+      ∷ record { closed = true; row = record { values = value.Int (pos 2) ∷ []; flags = true ∷ false ∷ true ∷ [] }; corners = corner 0 (right ∷ up ∷ []) ∷ corner 1 (up ∷ up ∷ []) ∷ [] }
+      ∷ [];
   detail_row = record { values = right ∷ []; flags = [] };
 }
 

@@ -1,11 +1,10 @@
 -- Words of a text that is read from its front.
-use Rattle.std.proofs.Common.{◌≡◌, ◌≢◌, ℕ, zero, suc, ◌+◌, ◌≤◌, List, [], ◌∷◌, ◌++◌, length, take, drop, append_assoc, Bool, true, false, refl, sym, ap, ◌∙◌, subst, arith, inl, inr, ◌⊎◌}
-use Rattle.std.specs.Prelude.{◌&&◌, ◌||◌, ◌==◌, not, nat_lt, if◌then◌else◌, filter, Option, Some, None}
-use Rattle.std.specs.List.{slice_split, onto_first, list_all}
+use Rattle.std.proofs.Common.{◌≡◌, ◌≢◌, ℕ, zero, suc, ◌+◌, ◌≤◌, List, [], ◌∷◌, ◌++◌, length, take, drop, append_assoc, true, false, refl, sym, ap, ◌∙◌, subst, arith, inl, inr}
+use Rattle.std.specs.Prelude.{◌==◌, not, filter}
+use Rattle.std.specs.List.{slice_split, onto_first}
 use Rattle.std.proofs.lemmas.Bool.{cases_Bool, and_parts}
 use Rattle.std.proofs.lemmas.Bool.Decides.{nat_tests}
-use Rattle.std.proofs.lemmas.List.Splits.{slice_split-cons_yes, slice_split-cons_no}
-use Rattle.geo_text.specs.ObjLines.{joined, joint, is_filled, is_blank, is_comment, before_comment, words_of}
+use Rattle.geo_text.specs.ObjLines.{joined, joint, is_filled, is_blank, before_comment, words_of}
 use Rattle.geo_text.specs.ObjScan.{is_line_feed, line_in, all_words, words_here, ends_word, is_word, is_apart, begins_word, begins_blank}
 
 blank_ends_no_line : (b : ℕ) → is_blank b ≡ true → is_line_feed b ≡ false

@@ -1,9 +1,9 @@
 -- What the numerals of a line say, word by word.
-use Rattle.std.proofs.Common.{◌≡◌, ℕ, ◌<◌, List, [], ◌∷◌, length, refl, sym, ap, ◌∙◌, subst, arith, inl, inr, ◌⊎◌, Option, Some, None}
-use Rattle.std.specs.Prelude.{option_map, codes, Result, Ok, pos}
+use Rattle.std.proofs.Common.{◌≡◌, ℕ, ◌<◌, List, [], ◌∷◌, length, refl, sym, ap, ◌∙◌, arith, inl, inr, Some, None}
+use Rattle.std.specs.Prelude.{codes, Ok, pos}
 use Rattle.sop_fixed.specs.declared.vec3.Vec3.{Vec3}
 use Rattle.sop_fixed.specs.Numerals.{value_of}
-use Rattle.geo_text.specs.ObjStatements.{Place, vector_in, place_in, place_with, place_without, texture_in}
+use Rattle.geo_text.specs.ObjStatements.{vector_in, place_in, texture_in}
 use Rattle.geo_text.specs.ObjScan.{place_from, IsNextOrZero}
 
 pub no_place : (words : List (List ℕ)) (x y z : List ℕ) (rest : List (List ℕ)) → words ≡ x ∷ y ∷ z ∷ rest → vector_in x y z ≡ None → place_in words ≡ None

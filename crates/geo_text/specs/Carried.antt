@@ -3,10 +3,8 @@
 -- These are the places of the points; their `Cd`, where it is a vector and there is a point; the primitives with their points, closed or
 -- open; the `uv` of the vertices, where it is a vector and there is a vertex; their `N`, where it is a vector and there is a closed primitive,
 -- and zero on the vertices of open ones; and the groups of primitives that have a member, in order of first use by a primitive.
-use Rattle.std.specs.Prelude.{ℕ, Bool, true, false, if◌then◌else◌, ◌&&◌, List, [], ◌∷◌, ◌++◌, map, Option, None, Some, is_some, codes}
+use Rattle.std.specs.Prelude.{ℕ, Bool, true, false, if◌then◌else◌, List, [], ◌∷◌, ◌++◌, map, Option, None, Some, is_some, codes}
 use Rattle.std.specs.List.{list_any, flat_map}
-use Rattle.std.specs.Option.{option_map_or}
-use Rattle.sop_fixed.specs.declared.vec3.Vec3.{Vec3}
 use Rattle.sop_model.specs.declared.geo.Geo.{Geo}
 use Rattle.sop_model.specs.declared.geo.Row.{Row}
 use Rattle.sop_model.specs.declared.geo.Corner.{Corner}

@@ -8,3 +8,4 @@ pub mod ObjMeaning
 pub mod ObjText
 pub mod Carried
 pub mod ObjScan
+pub mod ObjReferences

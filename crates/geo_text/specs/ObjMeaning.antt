@@ -7,7 +7,7 @@
 -- Points are the `v` lines in order. Their attribute `Cd` is there where some line has a colour, and zero on the others. Primitives are the
 -- `f` and `l` lines with a reference in order. The attributes `uv` and `N` of the vertices are there where some reference of these lines has
 -- that part, and zero on the others. The groups of primitives are the first 256 different names in order of first use by a primitive.
-use Rattle.std.specs.Prelude.{ℕ, zero, suc, ◌+◌, ◌-◌, Bool, true, false, if◌then◌else◌, ◌&&◌, ◌||◌, nat_le, nat_lt, List, [], ◌∷◌, ◌++◌, length, map, take, filter_map, sum_by, slice_get, Option, None, Some, unwrap_or, is_some, Result, Ok, Err, codes}
+use Rattle.std.specs.Prelude.{ℕ, ◌+◌, ◌-◌, Bool, true, false, if◌then◌else◌, ◌&&◌, ◌||◌, nat_le, nat_lt, List, [], ◌∷◌, ◌++◌, length, map, take, filter_map, sum_by, slice_get, Option, None, Some, unwrap_or, is_some, Result, Ok, Err, codes}
 use Rattle.std.specs.List.{list_any, flat_map}
 use Rattle.std.specs.Option.{option_and_then}
 use Rattle.std.specs.Str.{bytes_eq}
@@ -24,6 +24,8 @@ use Rattle.sop_model.specs.Limits.{most_points, most_prims, most_vertices, most_
 use Rattle.sop_model.specs.Values.{zero_vector}
 use Rattle.sop_model.specs.Geometry.{empty_row, no_heads, position_head}
 use Rattle.sop_model.specs.Merge.{first_names}
+use Rattle.geo_text.specs.declared.reference.Counts.{Counts}
+use Rattle.geo_text.specs.declared.reference.Named.{Named}
 use Rattle.geo_text.specs.ObjLines.{Line, lines_of}
 use Rattle.geo_text.specs.ObjStatements.{Part, Absent, Ahead, Back, Wrong, Reference, Place, Statement, Point, Texture, Normal, Shape, Checked, Groups, Nothing, statement_of}
 
@@ -43,11 +45,6 @@ abbrev pub said_by : Line → Said
 said_by line = record { line = line.number; statement = statement_of line.words }
 
 -- COUNTS
-
-pub record Counts : Type 0 where
-  pub points : ℕ
-  pub textures : ℕ
-  pub normals : ℕ
 
 abbrev pub no_counts : Counts
 no_counts = record { points = 0; textures = 0; normals = 0 }
@@ -80,12 +77,6 @@ passes_limits said =
     || nat_lt most_prims (sum_by (λ s. is_shape s.statement) said)
 
 -- REFERENCES
-
--- the elements that a reference names, by their numbers from 0
-pub record Named : Type 0 where
-  pub point : ℕ
-  pub texture : Option ℕ
-  pub normal : Option ℕ
 
 abbrev pub within : Bool → ℕ → Option ℕ
 within true element = Some element

@@ -1,10 +1,10 @@
 -- Lines and words of an OBJ text that is read from its front, as private contracts speak of them.
-use Rattle.std.specs.Prelude.{◌≡◌, ◌⊎◌, codes, ℕ, ◌+◌, Bool, true, false, not, if◌then◌else◌, ◌||◌, ◌==◌, List, [], ◌∷◌, ◌++◌, filter, Option, None, Some, option_map}
+use Rattle.std.specs.Prelude.{◌≡◌, ◌⊎◌, codes, ℕ, ◌+◌, Bool, true, false, not, if◌then◌else◌, ◌||◌, ◌==◌, List, [], ◌∷◌, filter, Option, None, Some, option_map}
 use Rattle.std.specs.List.{list_all, slice_split}
 use Rattle.std.specs.Borrow.{Bor}
 use Rattle.sop_fixed.specs.declared.vec3.Vec3.{Vec3}
 use Rattle.geo_text.specs.ObjStatements.{Place}
-use Rattle.geo_text.specs.ObjLines.{joint, joined, is_filled, is_blank, before_comment, words_of}
+use Rattle.geo_text.specs.ObjLines.{joint, joined, is_filled, is_blank, words_of}
 
 -- a byte or joint and what stands behind it
 abbrev pub from_first : Option (ℕ × Bor (List ℕ)) → List ℕ

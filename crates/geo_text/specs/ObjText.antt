@@ -5,7 +5,7 @@
 -- and `l` for an open one, with a reference for each vertex. A reference is the number of a point from 1, and the number of the vertex from 1
 -- as its texture coordinate and its normal, where there are such lines; an `l` names no normal. Before a primitive whose groups differ from
 -- those of the one before, none before the first, stands `g` with their names in order. Each line ends with LF.
-use Rattle.std.specs.Prelude.{ℕ, ◌+◌, Bool, true, false, not, if◌then◌else◌, ◌&&◌, List, [], ◌∷◌, ◌++◌, position, slice_get, Option, None, Some, is_some, codes, decimal}
+use Rattle.std.specs.Prelude.{ℕ, ◌+◌, Bool, true, false, if◌then◌else◌, ◌&&◌, List, [], ◌∷◌, ◌++◌, position, slice_get, Option, None, Some, is_some, codes, decimal}
 use Rattle.std.specs.List.{flat_map, items_where_true}
 use Rattle.std.specs.Option.{option_and_then}
 use Rattle.std.specs.Str.{bytes_eq}

@@ -4,6 +4,7 @@
 mod fault;
 mod part;
 mod read;
+mod reference;
 mod scan;
 mod sheet;
 mod vectors;

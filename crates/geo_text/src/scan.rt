@@ -114,7 +114,11 @@ pub(crate) fn next_word(text: &[u8]) -> Option<(&[u8], &[u8])>
 {
     let text = skip_blanks(text);
     let (word, rest) = text.split_at(word_len(text));
-    if begins_word(word) { Some((word, rest)) } else { None }
+    if begins_word(word) {
+        Some((word, rest))
+    } else {
+        None
+    }
 }
 
 /// Whether some bytes are a word, and not the start of a comment.

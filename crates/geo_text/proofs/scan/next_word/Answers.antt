@@ -1,6 +1,4 @@
-use Rattle.std.proofs.Common.{◌≡◌, ◌++◌, ◌∙◌, sym, ap, subst, true}
-use Rattle.geo_text.specs.ObjLines.{joined}
-use Rattle.geo_text.specs.ObjScan.{is_word, is_apart}
+use Rattle.std.proofs.Common.{◌∙◌, sym}
 use Rattle.geo_text.proofs.ObjScanning.{word_here, no_word_here}
 use Rattle.geo_text.proofs.scan.next_word.Goals as goal
 
