@@ -1,5 +1,6 @@
 pub mod ObjScanning
 pub mod ObjVectors
+pub mod ObjNames
 pub mod ObjReferencing
 pub mod Plain
 pub mod Words

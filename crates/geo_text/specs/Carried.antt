@@ -17,7 +17,8 @@ use Rattle.sop_model.specs.Vertices.{corners_of}
 use Rattle.sop_model.specs.Geometry.{empty_row, no_heads, position_head}
 use Rattle.sop_model.specs.Merge.{first_names}
 use Rattle.geo_text.specs.ObjLines.{is_filled}
-use Rattle.geo_text.specs.ObjMeaning.{head_if, is_among}
+use Rattle.geo_text.specs.ObjTaking.{head_if}
+use Rattle.geo_text.specs.ObjMeaning.{is_among}
 use Rattle.geo_text.specs.ObjText.{vector_head, vector_under, groups_of}
 
 -- the head of a name, where its kind is vector and some element carries it

@@ -9,3 +9,4 @@ pub mod ObjText
 pub mod Carried
 pub mod ObjScan
 pub mod ObjReferences
+pub mod ObjTaking

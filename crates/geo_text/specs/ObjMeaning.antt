@@ -27,6 +27,9 @@ use Rattle.sop_model.specs.Merge.{first_names}
 use Rattle.geo_text.specs.declared.reference.Counts.{Counts}
 use Rattle.geo_text.specs.declared.reference.Named.{Named}
 use Rattle.geo_text.specs.ObjLines.{Line, lines_of}
+use Rattle.geo_text.specs.declared.taker.Attributes.{Attributes}
+use Rattle.geo_text.specs.declared.taker.Vertex.{Vertex}
+use Rattle.geo_text.specs.ObjTaking.{begun, point_row, prim_from}
 use Rattle.geo_text.specs.ObjStatements.{Part, Absent, Ahead, Back, Wrong, Reference, Place, Statement, Point, Texture, Normal, Shape, Checked, Groups, Nothing, statement_of}
 
 -- Why a text gives no geometry: the number of a line, from 1, where a word isn't the number that is wanted, or where a reference names no
@@ -195,11 +198,6 @@ abbrev pub is_among : List (List ℕ) → List ℕ → Bool
 is_among names name = list_any (bytes_eq name) names
 
 -- which attributes there are beside `P`
-pub record Attributes : Type 0 where
-  pub colour : Bool
-  pub texture : Bool
-  pub normal : Bool
-
 abbrev pub attributes_of : List Place → List Shaped → Attributes
 attributes_of places shapes = record {
   colour = list_any (λ p. is_some p.colour) places;
@@ -207,47 +205,23 @@ attributes_of places shapes = record {
   normal = list_any (λ s. list_any (λ c. is_some c.normal) s.corners) shapes;
 }
 
-abbrev pub head_if : Bool → List ℕ → List Head
-head_if true name = record { name = name; kind = kind.Vector } ∷ []
-head_if false name = []
-
-abbrev pub value_if : Bool → Vec3 → List Value
-value_if true v = value.Vector v ∷ []
-value_if false v = []
-
 abbrev pub vector_at : List Vec3 → Option ℕ → Vec3
 vector_at vectors element = unwrap_or (option_and_then (slice_get vectors) element) zero_vector
 
-abbrev pub point_row : Attributes → Place → Row
-point_row has place = record { values = value.Vector place.at ∷ value_if has.colour (unwrap_or place.colour zero_vector); flags = [] }
-
-abbrev pub vertex_row : Attributes → List Vec3 → List Vec3 → Named → Row
-vertex_row has textures normals named = record {
-  values = value_if has.texture (vector_at textures named.texture) ++ value_if has.normal (vector_at normals named.normal);
-  flags = [];
-}
-
-abbrev pub corner_of : Attributes → List Vec3 → List Vec3 → Named → Corner
-corner_of has textures normals named = record { point = named.point; row = vertex_row has textures normals named }
+-- the vertex that a reference means
+abbrev pub vertex_of : List Vec3 → List Vec3 → Named → Vertex
+vertex_of textures normals named = record { point = named.point; texture = vector_at textures named.texture; normal = vector_at normals named.normal }
 
 abbrev pub prim_of : Attributes → List Vec3 → List Vec3 → List (List ℕ) → Shaped → Primitive
-prim_of has textures normals names s = record {
-  closed = s.closed;
-  row = record { values = []; flags = map (is_among s.groups) names };
-  corners = map (corner_of has textures normals) s.corners;
-}
+prim_of has textures normals names s = prim_from has s.closed (map (vertex_of textures normals) s.corners) (map (is_among s.groups) names)
 
 abbrev pub geo_from : List Vec3 → List Vec3 → List Place → List Shaped → Geo
 geo_from textures normals places shapes =
     let has = attributes_of places shapes in
-    record {
-      detail = no_heads;
+    record (begun has) {
       prim = record { heads = []; groups = group_names shapes };
-      point = record { heads = position_head ∷ head_if has.colour (codes "Cd"); groups = [] };
-      vertex = record { heads = head_if has.texture (codes "uv") ++ head_if has.normal (codes "N"); groups = [] };
-      points = map (point_row has) places;
+      points = map (λ p. point_row has p.at p.colour) places;
       prims = map (prim_of has textures normals (group_names shapes)) shapes;
-      detail_row = empty_row;
     }
 
 abbrev pub geo_of : List Piece → Geo

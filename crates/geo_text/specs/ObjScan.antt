@@ -2,6 +2,7 @@
 use Rattle.std.specs.Prelude.{◌≡◌, ◌⊎◌, codes, ℕ, ◌+◌, Bool, true, false, not, if◌then◌else◌, ◌||◌, ◌==◌, List, [], ◌∷◌, filter, Option, None, Some, option_map}
 use Rattle.std.specs.List.{list_all, slice_split}
 use Rattle.std.specs.Borrow.{Bor}
+use Rattle.std.specs.Char.{is_ascii_digit}
 use Rattle.sop_fixed.specs.declared.vec3.Vec3.{Vec3}
 use Rattle.geo_text.specs.ObjStatements.{Place}
 use Rattle.geo_text.specs.ObjLines.{joint, joined, is_filled, is_blank, words_of}
@@ -76,3 +77,7 @@ place_from p = record { at = p.0; colour = p.1 }
 -- of some words: the first and those behind it, or the numeral zero where there are none
 abbrev pub IsNextOrZero : List (List ℕ) → List ℕ → List (List ℕ) → Type 0
 IsNextOrZero words word rest = (words ≡ word ∷ rest) ⊎ ((words ≡ []) × (word ≡ codes "0") × (rest ≡ []))
+
+abbrev pub begins_with_digit : List ℕ → Bool
+begins_with_digit [] = false
+begins_with_digit (b ∷ word) = is_ascii_digit b

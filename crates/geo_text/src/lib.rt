@@ -2,11 +2,13 @@
 #![tactic(auto)]
 
 mod fault;
+mod group_name;
 mod part;
 mod read;
 mod reference;
 mod scan;
 mod sheet;
+pub mod taker;
 mod vectors;
 mod write;
 
