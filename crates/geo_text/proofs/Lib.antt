@@ -1,4 +1,5 @@
 pub mod ObjScanning
+pub mod ObjMaking
 pub mod ObjVectors
 pub mod ObjNames
 pub mod ObjReferencing

@@ -15,7 +15,7 @@ use Rattle.sop_model.specs.declared.value.Value.{Value}
 use Rattle.sop_model.specs.declared.value.Value.TheVariants as value
 use Rattle.sop_model.specs.Values.{zero_vector}
 use Rattle.sop_model.specs.Geometry.{empty_geo, position_head}
-use Rattle.sop_model.specs.Rows.{group_added}
+use Rattle.sop_model.specs.Rows.{group_added, with_last_flag}
 use Rattle.geo_text.specs.declared.taker.Attributes.{Attributes}
 use Rattle.geo_text.specs.declared.taker.Vertex.{Vertex}
 
@@ -55,3 +55,11 @@ prim_taken has closed vertices flags g = record g { prims = g.prims ++ prim_from
 
 abbrev pub group_taken : List ℕ → Geo → Geo
 group_taken name g = group_added g Prim name
+
+-- the geometry of these attributes, points, groups of primitives and primitives
+abbrev pub made_of : Attributes → List Row → List (List ℕ) → List Primitive → Geo
+made_of has points groups prims = record (begun has) { prim = record { heads = []; groups = groups }; points = points; prims = prims }
+
+-- a primitive that isn't in a further group
+abbrev pub flag_more : Primitive → Primitive
+flag_more p = record p { row = with_last_flag false p.row }

@@ -2,6 +2,7 @@
 #![tactic(auto)]
 
 mod fault;
+pub mod geo_maker;
 mod group_name;
 mod part;
 mod read;
@@ -11,6 +12,7 @@ mod sheet;
 pub mod taker;
 mod vectors;
 mod write;
+mod zero;
 
 pub use fault::ObjFault;
 pub use read::read_obj;
