@@ -10,3 +10,4 @@ pub mod Carried
 pub mod ObjScan
 pub mod ObjReferences
 pub mod ObjTaking
+pub mod ObjRun

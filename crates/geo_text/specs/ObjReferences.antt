@@ -1,7 +1,8 @@
 -- References as private contracts speak of them.
-use Rattle.std.specs.Prelude.{◌≡◌, ◌⊎◌, ℕ, ◌<◌, Bool, true, false, ◌==◌, List, [], ◌∷◌, Option, None, Some, Result, Ok, Err}
+use Rattle.std.specs.Prelude.{◌≡◌, ◌⊎◌, ℕ, ◌<◌, ◌≤◌, Bool, true, false, ◌==◌, List, [], ◌∷◌, Option, None, Some, Result, Ok, Err}
 use Rattle.std.specs.List.{slice_split}
 use Rattle.std.specs.Borrow.{Bor}
+use Rattle.sop_model.specs.Limits.{most_points}
 use Rattle.geo_text.specs.declared.reference.WordFault.{WordFault}
 use Rattle.geo_text.specs.declared.reference.WordFault.TheVariants as fault
 use Rattle.geo_text.specs.declared.reference.Counts.{Counts}
@@ -39,8 +40,14 @@ goes_on _ = true
 abbrev pub reference_seen : Parts → Reference
 reference_seen p = record { point = part_of p.point.now; texture = part_of p.texture.now; normal = part_of p.normal.now; is_long = p.is_long }
 
--- counts that a 64 bit number can pass
-pub record AreCounts (n : Counts) : Type 0 where
-  pub points : n.points < 18446744073709551615
-  pub textures : n.textures < 18446744073709551615
-  pub normals : n.normals < 18446744073709551615
+-- counts of a whole text: points within the limit, and others that a number of 64 bits can pass
+pub record AreCounts (whole : Counts) : Type 0 where
+  pub points : whole.points ≤ most_points
+  pub textures : whole.textures < 18446744073709551615
+  pub normals : whole.normals < 18446744073709551615
+
+-- counts of the lines before one
+pub record AreSoFar (whole so_far : Counts) : Type 0 where
+  pub points : so_far.points ≤ whole.points
+  pub textures : so_far.textures ≤ whole.textures
+  pub normals : so_far.normals ≤ whole.normals

@@ -4,12 +4,15 @@
 mod fault;
 pub mod geo_maker;
 mod group_name;
+mod groups;
 mod part;
 mod read;
+mod reader;
 mod reference;
 mod scan;
 mod sheet;
 pub mod taker;
+mod totals;
 mod vectors;
 mod write;
 mod zero;

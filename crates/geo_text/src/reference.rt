@@ -1,9 +1,10 @@
 // References to points, texture coordinates and normals.
-ghost use Rattle.std.specs.Prelude.{◌≡◌, ℕ, ◌<◌, ◌∷◌, ◌==◌, ◌-◌, nat_lt, nat_le, ◌&&◌, position};
+ghost use Rattle.std.specs.Prelude.{◌≡◌, ℕ, ◌<◌, ◌≤◌, ◌∷◌, ◌==◌, ◌-◌, IfOk, nat_lt, nat_le, ◌&&◌, position};
 ghost use Rattle.sop_fixed.specs.Numerals.{has_minus, after_sign, is_some_digits};
+ghost use Rattle.sop_model.specs.Limits.{most_points};
 ghost use Rattle.geo_text.specs.ObjStatements.{part_of, reference_of};
 ghost use Rattle.geo_text.specs.ObjMeaning.{within, needed, optional, named_by};
-ghost use Rattle.geo_text.specs.ObjReferences.{told, parts_of, parts_left, IsNextPart, goes_on, reference_seen, AreCounts};
+ghost use Rattle.geo_text.specs.ObjReferences.{told, parts_of, parts_left, IsNextPart, goes_on, reference_seen, AreCounts, AreSoFar};
 
 use sop_fixed::{are_digits, read_digits};
 
@@ -138,8 +139,9 @@ fn ahead(number: u64, whole: usize) -> Option<usize>
 /// The element that a part names, which must be there.
 fn needed(part: &[u8], whole: usize, so_far: usize) -> Result<usize, WordFault>
     requires whole { whole < usize.MAX }
-    requires so_far { so_far < usize.MAX }
-    ensures { (line : ℕ) → told line result ≡ needed line whole so_far (part_of part.now) }
+    requires so_far { so_far ≤ whole }
+    ensures value { (line : ℕ) → told line result ≡ needed line whole so_far (part_of part.now) }
+    ensures below { IfOk result (λ element. element < whole) }
 {
     let (is_back, digits) = split_sign(part);
     if !is_some_digits(digits) {
@@ -157,7 +159,7 @@ fn needed(part: &[u8], whole: usize, so_far: usize) -> Result<usize, WordFault>
 /// The element that a part names, where it is there.
 fn optional(part: &[u8], whole: usize, so_far: usize) -> Result<Option<usize>, WordFault>
     requires whole { whole < usize.MAX }
-    requires so_far { so_far < usize.MAX }
+    requires so_far { so_far ≤ whole }
     ensures { (line : ℕ) → told line result ≡ optional line whole so_far (part_of part.now) }
 {
     if part.is_empty() {
@@ -174,8 +176,9 @@ pub(crate) fn read_reference(
     so_far: &Counts,
 ) -> Result<Named, WordFault>
     requires whole { AreCounts whole.now }
-    requires so_far { AreCounts so_far.now }
-    ensures { (line : ℕ) → told line result ≡ named_by line whole.now so_far.now (reference_of word.now) }
+    requires so_far { AreSoFar whole.now so_far.now }
+    ensures point { IfOk result (λ n. n.point < most_points) }
+    ensures value { (line : ℕ) → told line result ≡ named_by line whole.now so_far.now (reference_of word.now) }
 {
     let parts = split_parts(word);
     let point = needed(parts.point, whole.points, so_far.points)?;

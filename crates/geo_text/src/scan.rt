@@ -74,6 +74,7 @@ pub(crate) fn next_line(text: &[u8]) -> Option<&[u8]>
 fn skip_blanks(text: &[u8]) -> &[u8]
     ensures words { words_here result.now ≡ words_here text.now }
     ensures start { begins_blank (joined result.now) ≡ false }
+    ensures within { length result.now ≤ length text.now }
 {
     let mut rest = text;
     while let Some((byte, more)) = next_byte(rest) {
@@ -110,7 +111,8 @@ fn word_len(text: &[u8]) -> usize
 
 /// The next word of the line, and what stands behind it. None where the line ends, or a comment begins.
 pub(crate) fn next_word(text: &[u8]) -> Option<(&[u8], &[u8])>
-    ensures { words_here text.now ≡ words_left result }
+    ensures words { words_here text.now ≡ words_left result }
+    ensures shorter { IfSome result (λ next. length next.1.now < length text.now) }
 {
     let text = skip_blanks(text);
     let (word, rest) = text.split_at(word_len(text));

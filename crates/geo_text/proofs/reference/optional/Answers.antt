@@ -6,4 +6,4 @@ use Rattle.geo_text.proofs.reference.optional.Goals as goal
 
 pub returns : goal.returns
 returns c = λ line.
-    sym (optional_needed line c.args.whole c.args.so_far c.in_ok-needed.field-0 (part_of c.args.part.now) (sym (c.needed.ensures line) ∙ ap (told line) c.in_ok-needed.was))
+    sym (optional_needed line c.args.whole c.args.so_far c.in_ok-needed.field-0 (part_of c.args.part.now) (sym (c.needed.ensures.value line) ∙ ap (told line) c.in_ok-needed.was))

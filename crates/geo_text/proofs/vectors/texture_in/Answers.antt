@@ -9,4 +9,4 @@ returns c =
     let z = c.next_or_zero-2.result in
     c.vector_in.ensures
     ∙ texture_words (words_here c.args.words.now) c.in_ok-x.x.now (words_here c.in_ok-x.rest.now) y.0.now (words_here y.1.now) z.0.now (words_here z.1.now)
-    c.in_ok-x.ensures c.next_or_zero.ensures c.next_or_zero-2.ensures
+    c.in_ok-x.ensures.words c.next_or_zero.ensures c.next_or_zero-2.ensures
