@@ -1,5 +1,6 @@
 pub mod ObjScanning
 pub mod ObjMaking
+pub mod ObjReader
 pub mod ObjVectors
 pub mod ObjNames
 pub mod ObjReferencing

@@ -1,5 +1,5 @@
 -- Groups that come to a geometry that is taken.
-use Rattle.std.proofs.Common.{◌≡◌, ℕ, zero, suc, ◌+◌, ◌-◌, ◌<◌, List, [], ◌∷◌, ◌++◌, length, map, take, drop, set, get_or, Bool, false, refl, sym, ap, ◌∙◌, subst, arith, Result, Ok, Err, length-drop}
+use Rattle.std.proofs.Common.{◌≡◌, ℕ, ◌+◌, ◌<◌, List, [], ◌∷◌, ◌++◌, length, map, take, drop, set, get_or, false, refl, sym, ap, ◌∙◌, arith, Result, Ok, Err, length-drop}
 use Rattle.std.specs.Prelude.{OnOk}
 use Rattle.std.specs.declared.alloc.AllocError.{AllocError}
 use Rattle.std.proofs.lemmas.List.{length-map, take_more_set, map_more, get_or-drop, drop-set-lt, drop-drop, take_at}

@@ -1,11 +1,11 @@
 -- Names of groups, mended.
-use Rattle.std.proofs.Common.{◌≡◌, ℕ, List, [], ◌∷◌, ◌++◌, map, take, Bool, true, false, refl, sym, ap, ◌∙◌, arith, Ok, Err}
-use Rattle.std.specs.Prelude.{codes, IfOk, Result, if◌then◌else◌}
+use Rattle.std.proofs.Common.{◌≡◌, ℕ, List, [], ◌∷◌, ◌++◌, map, take, true, false, refl, sym, ap, ◌∙◌, arith}
+use Rattle.std.specs.Prelude.{codes, if◌then◌else◌}
 use Rattle.std.specs.Char.{is_ascii_digit}
 use Rattle.std.proofs.lemmas.Bool.Decides.{nat_tests}
 use Rattle.std.proofs.lemmas.List.{take-map}
 use Rattle.sop_model.specs.Limits.{most_name_bytes}
-use Rattle.geo_text.specs.ObjStatements.{mended, mended_byte, with_start}
+use Rattle.geo_text.specs.ObjStatements.{mended, mended_byte}
 use Rattle.geo_text.specs.ObjScan.{begins_with_digit}
 
 digit_stays : (b : ℕ) → is_ascii_digit (mended_byte b) ≡ is_ascii_digit b

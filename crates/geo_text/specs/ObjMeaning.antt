@@ -7,22 +7,15 @@
 -- Points are the `v` lines in order. Their attribute `Cd` is there where some line has a colour, and zero on the others. Primitives are the
 -- `f` and `l` lines with a reference in order. The attributes `uv` and `N` of the vertices are there where some reference of these lines has
 -- that part, and zero on the others. The groups of primitives are the first 256 different names in order of first use by a primitive.
-use Rattle.std.specs.Prelude.{ℕ, ◌+◌, ◌-◌, Bool, true, false, if◌then◌else◌, ◌&&◌, ◌||◌, nat_le, nat_lt, List, [], ◌∷◌, ◌++◌, length, map, take, filter_map, sum_by, slice_get, Option, None, Some, unwrap_or, is_some, Result, Ok, Err, codes}
+use Rattle.std.specs.Prelude.{ℕ, ◌+◌, ◌-◌, Bool, true, false, if◌then◌else◌, ◌&&◌, ◌||◌, nat_le, nat_lt, List, [], ◌∷◌, length, map, take, filter_map, sum_by, slice_get, Option, None, Some, unwrap_or, is_some, Result, Ok, Err}
 use Rattle.std.specs.List.{list_any, flat_map}
 use Rattle.std.specs.Option.{option_and_then}
 use Rattle.std.specs.Str.{bytes_eq}
 use Rattle.sop_fixed.specs.declared.vec3.Vec3.{Vec3}
 use Rattle.sop_model.specs.declared.geo.Geo.{Geo}
-use Rattle.sop_model.specs.declared.geo.Row.{Row}
-use Rattle.sop_model.specs.declared.geo.Head.{Head}
-use Rattle.sop_model.specs.declared.geo.Corner.{Corner}
 use Rattle.sop_model.specs.declared.geo.Primitive.{Primitive}
-use Rattle.sop_model.specs.declared.value.Kind.TheVariants as kind
-use Rattle.sop_model.specs.declared.value.Value.{Value}
-use Rattle.sop_model.specs.declared.value.Value.TheVariants as value
 use Rattle.sop_model.specs.Limits.{most_points, most_prims, most_vertices, most_groups}
 use Rattle.sop_model.specs.Values.{zero_vector}
-use Rattle.sop_model.specs.Geometry.{empty_row, no_heads, position_head}
 use Rattle.sop_model.specs.Merge.{first_names}
 use Rattle.geo_text.specs.declared.reference.Counts.{Counts}
 use Rattle.geo_text.specs.declared.reference.Named.{Named}

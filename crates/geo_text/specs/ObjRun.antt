@@ -1,5 +1,5 @@
 -- A geometry that is taken piece by piece, as private contracts speak of it.
-use Rattle.std.specs.Prelude.{◌≡◌, ℕ, ◌+◌, Bool, true, false, if◌then◌else◌, nat_lt, List, [], ◌∷◌, ◌++◌, length, map, replicate, set, position, Option, None, Some, Result, Ok, Err}
+use Rattle.std.specs.Prelude.{◌≡◌, ℕ, Bool, true, false, if◌then◌else◌, nat_lt, List, [], ◌∷◌, ◌++◌, length, map, replicate, set, position, Option, None, Some, Result, Err}
 use Rattle.std.specs.Str.{bytes_eq}
 use Rattle.sop_fixed.specs.declared.vec3.Vec3.{Vec3}
 use Rattle.sop_model.specs.declared.geo.Geo.{Geo}
@@ -11,12 +11,14 @@ use Rattle.geo_text.specs.declared.reader.Keyword.{Keyword}
 use Rattle.geo_text.specs.declared.reader.Keyword.TheVariants as key
 use Rattle.geo_text.specs.declared.reader.LineFault.{LineFault}
 use Rattle.geo_text.specs.declared.reader.LineFault.TheVariants as fault
+use Rattle.geo_text.specs.declared.reference.WordFault.{WordFault}
+use Rattle.geo_text.specs.declared.reference.WordFault.TheVariants as word
 use Rattle.geo_text.specs.declared.groups.Groups.{Groups}
 use Rattle.geo_text.specs.declared.totals.Totals.{Totals}
 use Rattle.geo_text.specs.ObjTaking.{point_taken, prim_taken, group_taken}
 use Rattle.geo_text.specs.ObjStatements.{Statement, Point, Texture, Normal, Shape, Checked, Nothing, place_in, texture_in, normal_in, reference_of, shape_in, mended}
 use Rattle.geo_text.specs.ObjStatements as said
-use Rattle.geo_text.specs.ObjMeaning.{Refusal, Number, Index, map_ok, each_of, named_by, vertex_of, piece_of, counted_in, Piece, PointPiece, ShapePiece, GroupsPiece}
+use Rattle.geo_text.specs.ObjMeaning.{Refusal, Number, Index, map_ok, each_of, named_by, vertex_of, piece_of, Piece, PointPiece, ShapePiece, GroupsPiece}
 use Rattle.geo_text.specs.ObjScan.{words_here}
 
 -- GROUPS
@@ -111,3 +113,7 @@ behind done rest = map_ok (λ vertices. done ++ vertices) rest
 abbrev pub taken_by : ℕ → Attributes → Totals → Counts → Statement → Taking → Result Taking Refusal
 taken_by line has totals so_far statement t =
     map_ok (λ p. piece_taken has totals.textures.items totals.normals.items p t) (piece_of line totals.counts so_far statement)
+
+abbrev pub fault_of : WordFault → LineFault
+fault_of word.Number = fault.Number
+fault_of word.Index = fault.Index

@@ -2,7 +2,7 @@
 --
 -- It begins with its attributes and no element. A point, a primitive and a group come behind those that are there. A group that comes has no
 -- member, and a primitive that comes has a flag for each group that is there.
-use Rattle.std.specs.Prelude.{ℕ, Bool, true, false, List, [], ◌∷◌, ◌++◌, map, Option, None, Some, unwrap_or, codes}
+use Rattle.std.specs.Prelude.{ℕ, Bool, true, false, List, [], ◌∷◌, ◌++◌, map, Option, unwrap_or, codes}
 use Rattle.sop_fixed.specs.declared.vec3.Vec3.{Vec3}
 use Rattle.sop_model.specs.declared.class.Class.TheVariants.{Prim}
 use Rattle.sop_model.specs.declared.geo.Geo.{Geo}

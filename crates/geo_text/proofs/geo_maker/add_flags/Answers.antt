@@ -1,5 +1,4 @@
 use Rattle.std.proofs.Common.{ap, arith, get_or, List, Bool}
-use Rattle.sop_model.specs.declared.geo.Primitive.{Primitive}
 use Rattle.geo_text.specs.ObjTaking.{flag_more}
 use Rattle.geo_text.proofs.ObjMaking.{each_more}
 use Rattle.geo_text.proofs.geo_maker.add_flags.Goals as goal

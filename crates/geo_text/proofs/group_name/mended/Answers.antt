@@ -1,6 +1,6 @@
 use Rattle.std.proofs.Common.{◌≡◌, ◌++◌, map, sym, ap, ◌∙◌, subst}
 use Rattle.std.specs.Prelude.{IfOk, codes}
-use Rattle.geo_text.specs.ObjStatements.{mended, mended_byte}
+use Rattle.geo_text.specs.ObjStatements.{mended_byte}
 use Rattle.geo_text.proofs.ObjNames.{mended_digit, mended_plain}
 use Rattle.geo_text.proofs.group_name.mended.Goals as goal
 
