@@ -258,4 +258,58 @@ impl<'a> State<'a> {
         taker.take_prim(closed, &self.vertices, &self.groups.flags)?;
         Ok(())
     }
+
+    /// Judges the words behind a keyword, and takes what they say.
+    fn read_statement<T: ObjTaker>(
+        &mut self,
+        alloc: Global,
+        keyword: Keyword,
+        words: &'a [u8],
+        totals: &Totals,
+        taker: &mut T,
+    ) -> Result<(), LineFault>
+        requires totals { AreCounts totals.now.counts }
+        requires so_far { AreSoFar totals.now.counts (counted_in (statement_as keyword (words_here words.now)) self.old.so_far) }
+        ensures attributes { OnOk result (T.attributes taker.new ≡ T.attributes taker.old) }
+        ensures taken { OnOk result ((line : ℕ) → taken_by line (T.attributes taker.old) totals.now self.old.so_far (statement_as keyword (words_here words.now)) (taking_seen (T.taken taker.old) self.old.groups) ≡ Ok (taking_seen (T.taken taker.new) self.new.groups)) }
+        ensures so_far { OnOk result (self.new.so_far ≡ counted_in (statement_as keyword (words_here words.now)) self.old.so_far) }
+        ensures err { IfErr result (λ f. (line : ℕ) → IsRefused line f (piece_of line totals.now.counts self.old.so_far (statement_as keyword (words_here words.now)))) }
+    {
+        match keyword {
+            Keyword::Point => self.take_point(words, totals, taker),
+            Keyword::Texture => self.judge_texture(words, totals),
+            Keyword::Normal => self.judge_normal(words, totals),
+            Keyword::Closed => self.take_shape(alloc, true, words, totals, taker),
+            Keyword::Open => self.take_shape(alloc, false, words, totals, taker),
+            Keyword::Check => self.judge_references(words, totals),
+            Keyword::Groups => {
+                self.groups.begin(words);
+                Ok(())
+            }
+            Keyword::Other => Ok(()),
+        }
+    }
+
+    /// Judges a line, and takes what it says.
+    pub(crate) fn read_line<T: ObjTaker>(
+        &mut self,
+        alloc: Global,
+        line: &'a [u8],
+        totals: &Totals,
+        taker: &mut T,
+    ) -> Result<(), LineFault>
+        requires totals { AreCounts totals.now.counts }
+        requires so_far { AreSoFar totals.now.counts (counted_in (statement_of (words_here line.now)) self.old.so_far) }
+        ensures attributes { OnOk result (T.attributes taker.new ≡ T.attributes taker.old) }
+        ensures taken { OnOk result ((number : ℕ) → taken_by number (T.attributes taker.old) totals.now self.old.so_far (statement_of (words_here line.now)) (taking_seen (T.taken taker.old) self.old.groups) ≡ Ok (taking_seen (T.taken taker.new) self.new.groups)) }
+        ensures so_far { OnOk result (self.new.so_far ≡ counted_in (statement_of (words_here line.now)) self.old.so_far) }
+        ensures err { IfErr result (λ f. (number : ℕ) → IsRefused number f (piece_of number totals.now.counts self.old.so_far (statement_of (words_here line.now)))) }
+    {
+        match next_word(line) {
+            None => Ok(()),
+            Some((word, words)) => {
+                self.read_statement(alloc, keyword_of(word), words, totals, taker)
+            }
+        }
+    }
 }

@@ -29,4 +29,4 @@ returns-clause-taken g c = λ line.
     ∙ ap (λ l. prim_taken now c.args.closed vertices l (g.T.ObjTaker.taken c.find.new.taker)) c.deref-2.ensures.value in
     shape_taken line has c.args.totals.now c.args.self.now.so_far c.args.closed (words_here c.args.words.now) vertices before (c.in_default.ensures.ok line) some
     ∙ ap Ok (taking_more has now c.args.closed vertices before (record { geo = g.T.ObjTaker.taken c.find.new.taker; flags = flags }) (g.T.ObjTaker.taken c.take_prim.new.self) c.find.new.self
-      c.in_ok-find.ensures.flags c.in_ok-find.ensures.attributes taken c.find.ensures.words c.in_ok-find.ensures.known refl)
+    c.in_ok-find.ensures.flags c.in_ok-find.ensures.attributes taken c.find.ensures.words c.in_ok-find.ensures.known refl)
