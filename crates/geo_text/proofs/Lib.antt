@@ -1,6 +1,7 @@
 pub mod ObjScanning
 pub mod ObjMaking
 pub mod ObjReader
+pub mod ObjLooping
 pub mod ObjVectors
 pub mod ObjNames
 pub mod ObjReferencing

@@ -11,3 +11,4 @@ pub mod ObjScan
 pub mod ObjReferences
 pub mod ObjTaking
 pub mod ObjRun
+pub mod ObjLoop

@@ -5,6 +5,8 @@ mod fault;
 pub mod geo_maker;
 mod group_name;
 mod groups;
+mod obj_fault;
+mod obj_lines;
 mod part;
 mod read;
 mod reader;
