@@ -12,3 +12,4 @@ pub mod ObjReferences
 pub mod ObjTaking
 pub mod ObjRun
 pub mod ObjLoop
+pub mod ObjSurvey

@@ -13,6 +13,7 @@ mod reader;
 mod reference;
 mod scan;
 mod sheet;
+mod survey;
 pub mod taker;
 mod totals;
 mod vectors;

@@ -61,7 +61,8 @@ fn fault_of(fault: WordFault) -> LineFault
     }
 }
 
-fn keyword_of(word: &[u8]) -> Keyword
+/// What a line is about whose first word is this.
+pub(crate) fn keyword_of(word: &[u8]) -> Keyword
     ensures { (words : List (List ℕ)) → statement_under word.now words ≡ statement_as result words }
 {
     match word {

@@ -4,6 +4,7 @@ ghost use Rattle.sop_fixed.specs.Numerals.{has_minus, after_sign, is_some_digits
 ghost use Rattle.sop_model.specs.Limits.{most_points};
 ghost use Rattle.geo_text.specs.ObjStatements.{part_of, reference_of};
 ghost use Rattle.geo_text.specs.ObjMeaning.{within, needed, optional, named_by};
+ghost use Rattle.geo_text.specs.ObjSurvey.{has_texture, has_normal};
 ghost use Rattle.geo_text.specs.ObjReferences.{told, parts_of, parts_left, IsNextPart, goes_on, reference_seen, AreCounts, AreSoFar};
 
 use sop_fixed::{are_digits, read_digits};
@@ -192,4 +193,18 @@ pub(crate) fn read_reference(
         texture,
         normal,
     })
+}
+
+/// Whether a reference has a texture coordinate.
+pub(crate) fn has_texture(word: &[u8]) -> bool
+    ensures { result ≡ has_texture word.now }
+{
+    !split_parts(word).texture.is_empty()
+}
+
+/// Whether a reference has a normal.
+pub(crate) fn has_normal(word: &[u8]) -> bool
+    ensures { result ≡ has_normal word.now }
+{
+    !split_parts(word).normal.is_empty()
 }

@@ -1,5 +1,5 @@
 // The numerals of a line: points with their colours, texture coordinates and normals.
-ghost use Rattle.std.specs.Prelude.{◌≡◌, ◌∷◌, ◌<◌, length, option_map, MatchOption};
+ghost use Rattle.std.specs.Prelude.{◌≡◌, ◌∷◌, ◌<◌, length, nat_le, option_map, MatchOption};
 ghost use Rattle.geo_text.specs.ObjStatements.{vector_in, place_in, texture_in, normal_in};
 ghost use Rattle.geo_text.specs.ObjScan.{words_here, place_from, IsNextOrZero};
 
@@ -23,6 +23,16 @@ fn next_three(text: &[u8]) -> Option<Three<'_>>
     let (y, rest) = next_word(rest)?;
     let (z, rest) = next_word(rest)?;
     Some(Three { x, y, z, rest })
+}
+
+/// Whether six words or more are left in the line.
+pub(crate) fn has_six(words: &[u8]) -> bool
+    ensures { result ≡ nat_le 6 (length (words_here words.now)) }
+{
+    match next_three(words) {
+        None => false,
+        Some(three) => next_three(three.rest).is_some(),
+    }
 }
 
 fn vector_in(x: &[u8], y: &[u8], z: &[u8]) -> Option<Vec3>
