@@ -2,6 +2,7 @@ pub mod ObjScanning
 pub mod ObjMaking
 pub mod ObjReader
 pub mod ObjLooping
+pub mod ObjSurveying
 pub mod ObjVectors
 pub mod ObjNames
 pub mod ObjReferencing

@@ -17,7 +17,7 @@ use Rattle.geo_text.specs.ObjRun.{Taking, piece_taken, pieces_taken, taken_by}
 use Rattle.geo_text.specs.ObjLoop.{IsTold, number_at, said_at, said_left, ends_left, counts_sum, outcome}
 
 -- ---- the first line of a text and the others
-first_line : (text : List ℕ) → slice_split is_line_feed text ≡ line_in text ∷ lines_left (behind_line text)
+pub first_line : (text : List ℕ) → slice_split is_line_feed text ≡ line_in text ∷ lines_left (behind_line text)
 first_line [] = refl
 first_line (b ∷ text) =
     elim (cases_Bool (is_line_feed b)) [

@@ -1,5 +1,6 @@
 -- What the lines of an OBJ text have, counted before they are judged, as private contracts speak of it.
-use Rattle.std.specs.Prelude.{◌≡◌, ⊤, ℕ, ◌+◌, Bool, true, false, ◌||◌, nat_le, nat_lt, List, [], ◌∷◌, ◌++◌, length, map, Option, None, Some, unwrap_or}
+use Rattle.std.specs.Prelude.{◌≡◌, ⊤, ℕ, ◌+◌, Bool, true, false, if◌then◌else◌, ◌||◌, nat_le, nat_lt, List, [], ◌∷◌, ◌++◌, length, map, Option, None, Some, unwrap_or, codes}
+use Rattle.std.specs.Str.{bytes_eq}
 use Rattle.std.specs.List.{list_any, slice_split}
 use Rattle.sop_fixed.specs.declared.vec3.Vec3.{Vec3}
 use Rattle.sop_model.specs.Limits.{most_points, most_prims, most_vertices}
@@ -77,3 +78,31 @@ abbrev pub IsPast : ObjFault → Seen → Type 0
 IsPast fault.Limit s = is_past s ≡ true
 IsPast fault.Memory s = ⊤
 IsPast other s = ⊥
+
+-- what a line is about whose first word is this
+abbrev pub key_of : List ℕ → Keyword
+key_of word =
+    if bytes_eq word (codes "v") then key.Point
+    else if bytes_eq word (codes "vt") then key.Texture
+    else if bytes_eq word (codes "vn") then key.Normal
+    else if bytes_eq word (codes "f") then key.Closed
+    else if bytes_eq word (codes "l") then key.Open
+    else if bytes_eq word (codes "p") then key.Check
+    else if bytes_eq word (codes "g") then key.Groups
+    else key.Other
+
+abbrev pub line_seen : List (List ℕ) → Seen → Seen
+line_seen [] s = s
+line_seen (word ∷ words) s = seen_as (key_of word) words s
+
+abbrev pub all_seen : List (List (List ℕ)) → Seen → Seen
+all_seen [] s = s
+all_seen (words ∷ lines) s = all_seen lines (line_seen words s)
+
+-- the words of the lines of a text
+abbrev pub worded : List ℕ → List (List (List ℕ))
+worded text = map words_of (slice_split is_line_feed text)
+
+abbrev pub worded_left : Option (List ℕ) → List (List (List ℕ))
+worded_left None = []
+worded_left (Some text) = worded text

@@ -5,6 +5,7 @@ ghost use Rattle.geo_text.specs.declared.taker.Attributes.{Attributes};
 ghost use Rattle.geo_text.specs.ObjStatements.{statement_under, statement_of, reference_of, place_in, texture_in, normal_in, shape_in, Point, Texture, Normal, Checked};
 ghost use Rattle.geo_text.specs.ObjMeaning.{map_ok, vector_at, each_of, piece_of, counted_in, no_counts, NoPiece};
 ghost use Rattle.geo_text.specs.ObjReferences.{told, AreCounts, AreSoFar};
+ghost use Rattle.geo_text.specs.ObjSurvey.{key_of};
 ghost use Rattle.geo_text.specs.ObjScan.{words_here};
 ghost use Rattle.geo_text.specs.ObjRun.{fault_of, statement_as, vertex_by, vertices_by, IsRefused, Taking, taken_by, taking_seen, groups_seen, flags_seen};
 
@@ -63,7 +64,8 @@ fn fault_of(fault: WordFault) -> LineFault
 
 /// What a line is about whose first word is this.
 pub(crate) fn keyword_of(word: &[u8]) -> Keyword
-    ensures { (words : List (List ℕ)) → statement_under word.now words ≡ statement_as result words }
+    ensures key { result ≡ key_of word.now }
+    ensures statement { (words : List (List ℕ)) → statement_under word.now words ≡ statement_as result words }
 {
     match word {
         b"v" => Keyword::Point,

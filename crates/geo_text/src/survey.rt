@@ -1,14 +1,15 @@
 // What the lines of an OBJ text have, counted before they are judged.
 ghost use Rattle.sop_model.specs.Values.{zero_vector};
-ghost use Rattle.std.specs.Prelude.{◌≡◌, ◌++◌, ◌∷◌, [], false, ◌≤◌, length, unwrap_or, OnOk, IfErr};
+ghost use Rattle.std.specs.Prelude.{◌≡◌, ◌++◌, ◌∷◌, [], false, ◌≤◌, length, unwrap_or, OnOk, IfOk, IfErr};
 ghost use Rattle.std.specs.List.{list_any};
+ghost use Rattle.geo_text.specs.ObjLines.{joined};
 ghost use Rattle.geo_text.specs.ObjScan.{words_here};
-ghost use Rattle.geo_text.specs.ObjSurvey.{Seen, nothing_seen, has_texture, has_normal, seen_as, point_seen, shape_seen, survey_seen, is_past, IsPast};
+ghost use Rattle.geo_text.specs.ObjSurvey.{Seen, nothing_seen, has_texture, has_normal, seen_as, point_seen, shape_seen, line_seen, all_seen, worded, survey_seen, is_past, IsPast};
 
 use crate::obj_fault::ObjFault;
 use crate::reader::{Keyword, keyword_of};
 use crate::reference::{has_normal, has_texture};
-use crate::scan::next_word;
+use crate::scan::{next_line, next_word};
 use crate::taker::Attributes;
 use crate::vectors::{has_six, normal_in, texture_in};
 use crate::zero::zero_vector;
@@ -131,6 +132,35 @@ impl Survey {
             _ => Ok(()),
         }
     }
+
+    fn add_line(&mut self, line: &[u8]) -> Result<(), ObjFault>
+        requires { is_past (survey_seen self.old) ≡ false }
+        ensures seen { OnOk result (survey_seen self.new ≡ line_seen (words_here line.now) (survey_seen self.old)) }
+        ensures within { OnOk result (is_past (survey_seen self.new) ≡ false) }
+        ensures err { IfErr result (λ f. IsPast f (line_seen (words_here line.now) (survey_seen self.old))) }
+    {
+        match next_word(line) {
+            None => Ok(()),
+            Some((word, words)) => self.add_words(keyword_of(word), words),
+        }
+    }
+}
+
+/// What the lines of a text have. `Limit` where they have more elements than a geometry may have.
+pub(crate) fn survey_lines(alloc: Global, text: &[u8]) -> Result<Survey, ObjFault>
+    ensures seen { IfOk result (λ s. survey_seen s ≡ all_seen (worded (joined text.now)) nothing_seen) }
+    ensures within { IfOk result (λ s. is_past (survey_seen s) ≡ false) }
+    ensures err { IfErr result (λ f. IsPast f (all_seen (worded (joined text.now)) nothing_seen)) }
+{
+    let mut survey = Survey::new(alloc);
+    let mut left = Some(text);
+    while let Some(line) = left {
+        if let Err(fault) = survey.add_line(line) {
+            return Err(fault);
+        }
+        left = next_line(line);
+    }
+    Ok(survey)
 }
 
 /// Puts a vector behind others, or zero where there is none.
