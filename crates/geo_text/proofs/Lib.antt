@@ -3,6 +3,7 @@ pub mod ObjMaking
 pub mod ObjReader
 pub mod ObjLooping
 pub mod ObjSurveying
+pub mod ObjCounting
 pub mod ObjVectors
 pub mod ObjNames
 pub mod ObjReferencing
