@@ -4,6 +4,7 @@ pub mod ObjReader
 pub mod ObjLooping
 pub mod ObjSurveying
 pub mod ObjCounting
+pub mod ObjFound
 pub mod ObjVectors
 pub mod ObjNames
 pub mod ObjReferencing
