@@ -5,6 +5,7 @@ pub mod ObjLooping
 pub mod ObjSurveying
 pub mod ObjCounting
 pub mod ObjFound
+pub mod ObjGrouping
 pub mod ObjVectors
 pub mod ObjNames
 pub mod ObjReferencing
