@@ -6,6 +6,7 @@ pub mod ObjSurveying
 pub mod ObjCounting
 pub mod ObjFound
 pub mod ObjGrouping
+pub mod ObjGeometry
 pub mod ObjVectors
 pub mod ObjNames
 pub mod ObjReferencing

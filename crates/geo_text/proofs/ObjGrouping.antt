@@ -43,7 +43,7 @@ position_found x (y ∷ names) =
     ]
 
 -- ---- names among others
-or_parts : (a b : Bool) → (a || b) ≡ false → (a ≡ false) × (b ≡ false)
+pub or_parts : (a b : Bool) → (a || b) ≡ false → (a ≡ false) × (b ≡ false)
 or_parts true b h = cc
 or_parts false b h = (refl, h)
 
@@ -51,7 +51,7 @@ or_none : (b : Bool) → (b || false) ≡ b
 or_none true = refl
 or_none false = refl
 
-or_true : (b : Bool) → (b || true) ≡ true
+pub or_true : (b : Bool) → (b || true) ≡ true
 or_true true = refl
 or_true false = refl
 
@@ -67,10 +67,10 @@ pub among_append : (xs ys : Names) (x : List ℕ) → is_among (xs ++ ys) x ≡ 
 among_append [] ys x = refl
 among_append (y ∷ xs) ys x = ap (λ b. bytes_eq x y || b) (among_append xs ys x) ∙ sym (or_assoc (bytes_eq x y) (is_among xs x) (is_among ys x))
 
-among_last : (xs : Names) (x y : List ℕ) → is_among (xs ++ x ∷ []) y ≡ (is_among xs y || bytes_eq y x)
+pub among_last : (xs : Names) (x y : List ℕ) → is_among (xs ++ x ∷ []) y ≡ (is_among xs y || bytes_eq y x)
 among_last xs x y = among_append xs (x ∷ []) y ∙ ap (λ b. is_among xs y || b) (or_none (bytes_eq y x))
 
-same_name : (x : List ℕ) → bytes_eq x x ≡ true
+pub same_name : (x : List ℕ) → bytes_eq x x ≡ true
 same_name x = (bytes_decides x x).1 refl
 
 -- ---- flags of names
