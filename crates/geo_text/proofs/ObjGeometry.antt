@@ -137,3 +137,84 @@ module _ (has : Attributes) (textures normals : List Vec3) where
       first_into used s.groups
       ∙ ap (λ l. take most_groups (first_names (used ++ l))) (sym (append-nil s.groups))
       ∙ ap (λ l. take most_groups (first_names l)) (sym (flat_map-append (λ (s : Shaped). s.groups) shapes (s ∷ [])))
+
+  -- ---- what is taken holds some points and primitives
+  abbrev rows_of : List Place → List Row
+  rows_of places = map (λ p. point_row has p.at p.colour) places
+
+  abbrev FlagsHold : Option (List Bool) → Names → Names → Type 0
+  FlagsHold None groups names = Unit {0}
+  FlagsHold (Some flags) groups names = (flags ≡ map (is_among groups) names) × (are_settled names groups ≡ true)
+
+  pub record Holds (places : List Place) (shapes : List Shaped) (groups : Names) (t : Taking) : Type 0 where
+    pub geo : t.geo ≡ made (rows_of places) (group_names shapes) shapes
+    pub following : t.groups ≡ groups
+    pub flags : FlagsHold t.flags groups (group_names shapes)
+
+  no_flags : (names : Names) → replicate (length names) false ≡ map (is_among []) names
+  no_flags [] = refl
+  no_flags (x ∷ names) = ap (λ l. false ∷ l) (no_flags names)
+
+  -- the flags of a primitive behind the others, and the groups that it needs
+  marked_shape : (places : List Place) (shapes : List Shaped) (s : Shaped) (flags : Option (List Bool)) → FlagsHold flags s.groups (group_names shapes)
+      → marked_by flags s.groups (made (rows_of places) (group_names shapes) shapes) ≡ marked (rows_of places) (group_names (shapes ++ s ∷ [])) shapes s.groups
+  marked_shape places shapes s None h =
+      let names = group_names shapes in
+      ap (λ (f : List Bool). noted s.groups (record { geo = made (rows_of places) names shapes; flags = f })) (no_flags names)
+      ∙ noted_all (rows_of places) names shapes [] s.groups (used_distinct shapes) (used_complete shapes)
+      ∙ ap (λ n. marked (rows_of places) n shapes s.groups) (used_more shapes s)
+  marked_shape places shapes s (Some flags) h =
+      let names = group_names shapes in
+      let same : names ≡ group_names (shapes ++ s ∷ []) = sym (settled_same names s.groups h.1) ∙ used_more shapes s in
+      ap (λ (f : List Bool). record { geo = made (rows_of places) names shapes; flags = f }) h.0 ∙ ap (λ n. marked (rows_of places) n shapes s.groups) same
+
+  shape_held : (places : List Place) (shapes : List Shaped) (s : Shaped) (t : Taking) → Holds places shapes s.groups t
+      → Holds places (shapes ++ s ∷ []) s.groups (prim_behind has s.closed (map (vertex_of textures normals) s.corners) t)
+  shape_held places shapes s t h =
+      let names = group_names (shapes ++ s ∷ []) in
+      let vertices = map (vertex_of textures normals) s.corners in
+      let m : marked_by t.flags t.groups t.geo ≡ marked (rows_of places) names shapes s.groups =
+      ap (λ g. marked_by t.flags g t.geo) h.following ∙ ap (marked_by t.flags s.groups) h.geo ∙ marked_shape places shapes s t.flags h.flags in
+      let whole : prim_behind has s.closed vertices t ≡ with_prim has s.closed vertices s.groups (marked (rows_of places) names shapes s.groups) =
+      ap (λ g. with_prim has s.closed vertices g (marked_by t.flags t.groups t.geo)) h.following ∙ ap (with_prim has s.closed vertices s.groups) m in
+      let prims : map (prim_of has textures normals names) shapes ++ prim_of has textures normals names s ∷ [] ≡ map (prim_of has textures normals names) (shapes ++ s ∷ []) =
+      sym (map-append (prim_of has textures normals names) shapes (s ∷ [])) in
+      subst (Holds places (shapes ++ s ∷ []) s.groups) (sym whole) (record {
+        geo = ap (made_of has (rows_of places) names) prims;
+        following = refl;
+        flags = (refl, subst (λ n. are_settled n s.groups ≡ true) (used_more shapes s) (settled_after (group_names shapes) s.groups));
+      })
+
+  point_held : (places : List Place) (shapes : List Shaped) (groups : Names) (p : Place) (t : Taking) → Holds places shapes groups t
+      → Holds (places ++ p ∷ []) shapes groups (record t { geo = point_taken has p.at p.colour t.geo })
+  point_held places shapes groups p t h =
+      let names = group_names shapes in
+      let rows : rows_of places ++ point_row has p.at p.colour ∷ [] ≡ rows_of (places ++ p ∷ []) = sym (map-append (λ (p : Place). point_row has p.at p.colour) places (p ∷ [])) in
+      record {
+        geo = ap (point_taken has p.at p.colour) h.geo ∙ ap (λ r. made r names shapes) rows;
+        following = h.following;
+        flags = h.flags;
+      }
+
+  -- ---- all pieces
+  pub pieces_held : (pieces : List Piece) (places : List Place) (shapes : List Shaped) (groups : Names) (t : Taking) → Holds places shapes groups t
+      → (pieces_taken has textures normals pieces t).geo ≡ made (rows_of (places ++ filter_map place_of pieces)) (group_names (shapes ++ shapes_under groups pieces)) (shapes ++ shapes_under groups pieces)
+  pieces_held [] places shapes groups t h =
+      h.geo ∙ ap (λ l. made (rows_of l) (group_names shapes) shapes) (sym (append-nil places))
+      ∙ ap (λ l. made (rows_of (places ++ [])) (group_names l) l) (sym (append-nil shapes))
+  pieces_held (PointPiece p ∷ pieces) places shapes groups t h =
+      pieces_held pieces (places ++ p ∷ []) shapes groups (record t { geo = point_taken has p.at p.colour t.geo }) (point_held places shapes groups p t h)
+      ∙ ap (λ l. made (rows_of l) (group_names (shapes ++ shapes_under groups pieces)) (shapes ++ shapes_under groups pieces)) (append_assoc places (p ∷ []) (filter_map place_of pieces))
+  pieces_held (TexturePiece v ∷ pieces) places shapes groups t h = pieces_held pieces places shapes groups t h
+  pieces_held (NormalPiece v ∷ pieces) places shapes groups t h = pieces_held pieces places shapes groups t h
+  pieces_held (ShapePiece closed corners ∷ pieces) places shapes groups t h =
+      let s : Shaped = record { closed = closed; corners = corners; groups = groups } in
+      pieces_held pieces places (shapes ++ s ∷ []) groups (prim_behind has closed (map (vertex_of textures normals) corners) t) (shape_held places shapes s t h)
+      ∙ ap (λ l. made (rows_of (places ++ filter_map place_of pieces)) (group_names l) l) (append_assoc shapes (s ∷ []) (shapes_under groups pieces))
+  pieces_held (GroupsPiece names ∷ pieces) places shapes groups t h =
+      pieces_held pieces places shapes names (record t { groups = names; flags = None }) (record { geo = h.geo; following = refl; flags = tt })
+  pieces_held (NoPiece ∷ pieces) places shapes groups t h = pieces_held pieces places shapes groups t h
+
+  pub all_held : (pieces : List Piece) → (pieces_taken has textures normals pieces (record { geo = begun has; groups = []; flags = None })).geo
+      ≡ made (rows_of (filter_map place_of pieces)) (group_names (shapes_under [] pieces)) (shapes_under [] pieces)
+  all_held pieces = pieces_held pieces [] [] [] (record { geo = begun has; groups = []; flags = None }) (record { geo = refl; following = refl; flags = tt })
