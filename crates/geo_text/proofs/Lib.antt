@@ -7,6 +7,7 @@ pub mod ObjCounting
 pub mod ObjFound
 pub mod ObjGrouping
 pub mod ObjGeometry
+pub mod ObjWhole
 pub mod ObjVectors
 pub mod ObjNames
 pub mod ObjReferencing

@@ -1,5 +1,5 @@
 -- What the lines of a text have, counted line by line, is what their statements have.
-use Rattle.std.proofs.Common.{◌≡◌, ℕ, ◌+◌, List, [], ◌∷◌, ◌++◌, length, map, refl, sym, ap, ◌∙◌, subst, arith, Bool, true, false, length-append}
+use Rattle.std.proofs.Common.{◌≡◌, ℕ, ◌+◌, List, [], ◌∷◌, length, map, refl, sym, ap, ◌∙◌, subst, arith, Bool, true, false, length-append}
 use Rattle.std.specs.Prelude.{codes, if◌then◌else◌, ◌||◌, nat_lt, unwrap_or, sum_by}
 use Rattle.std.specs.Str.{bytes_eq}
 use Rattle.std.proofs.lemmas.List.{length-map}
@@ -11,7 +11,7 @@ use Rattle.geo_text.specs.declared.reader.Keyword.{Keyword}
 use Rattle.geo_text.specs.declared.reader.Keyword.TheVariants as key
 use Rattle.geo_text.specs.ObjLines.{joints_in, numbered, words_of}
 use Rattle.geo_text.specs.ObjStatements.{Statement, statement_under, statement_of, reference_of, shape_in, texture_in, normal_in}
-use Rattle.geo_text.specs.ObjMeaning.{Said, said_by, counted_in, counts_of, no_counts, references_of, is_shape, passes_limits}
+use Rattle.geo_text.specs.ObjMeaning.{Said, said_by, counted_in, counts_of, references_of, is_shape, passes_limits}
 use Rattle.geo_text.specs.ObjRun.{statement_as}
 use Rattle.geo_text.specs.ObjSurvey.{Seen, nothing_seen, seen_as, shape_seen, key_of, line_seen, all_seen, is_past}
 

@@ -1,6 +1,6 @@
 -- What the lines of a text have, counted line by line, is what the pieces have that they give.
 use Rattle.std.proofs.Common.{◌≡◌, ℕ, ◌+◌, List, [], ◌∷◌, ◌++◌, length, append_assoc, append-nil, refl, sym, ap, ◌∙◌, subst, arith, Result, Ok, Err, Option, Some, None, Bool, true, false}
-use Rattle.std.specs.Prelude.{◌||◌, nat_le, is_some, unwrap_or, filter_map, option_map, map}
+use Rattle.std.specs.Prelude.{◌||◌, nat_le, is_some, unwrap_or, filter_map, map}
 use Rattle.std.specs.List.{cons_option, list_any}
 use Rattle.std.specs.Option.{option_to_list}
 use Rattle.std.proofs.lemmas.Bool.Decides.{nat_tests}
@@ -11,8 +11,8 @@ use Rattle.geo_text.specs.declared.reference.Named.{Named}
 use Rattle.geo_text.specs.declared.reader.Keyword.{Keyword}
 use Rattle.geo_text.specs.declared.reader.Keyword.TheVariants as key
 use Rattle.geo_text.specs.ObjLines.{joints_in, words_of}
-use Rattle.geo_text.specs.ObjStatements.{Part, Absent, Ahead, Back, Wrong, Reference, Place, Statement, reference_of, place_in, place_with, place_without, vector_in, texture_in, normal_in, shape_in, statement_of, mended}
-use Rattle.geo_text.specs.ObjMeaning.{Refusal, Piece, PointPiece, TexturePiece, NormalPiece, ShapePiece, GroupsPiece, NoPiece, Said, map_ok, and_then, needed, optional, at_end, named_by, each_of, put_first, or_number, piece_of, pieces_of, counted_in, place_of, texture_of, normal_of, Shaped, shapes_under}
+use Rattle.geo_text.specs.ObjStatements.{Part, Absent, Ahead, Back, Wrong, Reference, Place, reference_of, place_in, place_with, place_without, vector_in, texture_in, normal_in, shape_in, statement_of, mended}
+use Rattle.geo_text.specs.ObjMeaning.{Refusal, Piece, PointPiece, TexturePiece, NormalPiece, ShapePiece, GroupsPiece, NoPiece, map_ok, and_then, needed, optional, at_end, named_by, each_of, put_first, or_number, piece_of, pieces_of, counted_in, place_of, texture_of, normal_of, Shaped, shapes_under}
 use Rattle.geo_text.specs.ObjRun.{statement_as}
 use Rattle.geo_text.specs.ObjSurvey.{Seen, is_there, has_texture, has_normal, seen_as, shape_seen, key_of, line_seen, all_seen}
 use Rattle.geo_text.proofs.ObjCounting.{key_says, said_lines}

@@ -1,6 +1,6 @@
 -- A geometry that is taken piece by piece is the one that the pieces mean.
-use Rattle.std.proofs.Common.{◌≡◌, ℕ, zero, suc, ◌+◌, ◌<◌, List, [], ◌∷◌, ◌++◌, length, map, set, take, replicate, append_assoc, append-nil, refl, sym, ap, ◌∙◌, subst, arith, Option, Some, None, Bool, true, false, inl, inr, ◌⊎◌}
-use Rattle.std.specs.Prelude.{◌||◌, nat_lt, position, if◌then◌else◌, filter_map, unwrap_or}
+use Rattle.std.proofs.Common.{◌≡◌, ℕ, List, [], ◌∷◌, ◌++◌, length, map, take, replicate, append_assoc, append-nil, refl, sym, ap, ◌∙◌, subst, arith, Option, Some, None, Bool, true, false, inl, inr}
+use Rattle.std.specs.Prelude.{◌||◌, nat_lt, filter_map}
 use Rattle.std.specs.List.{list_any, flat_map}
 use Rattle.std.specs.Str.{bytes_eq}
 use Rattle.std.proofs.lemmas.Bool.{cases_Bool, cases_lt}
@@ -10,17 +10,14 @@ use Rattle.std.proofs.lemmas.Grind.{flat_map-append}
 use Rattle.sop_fixed.specs.declared.vec3.Vec3.{Vec3}
 use Rattle.sop_model.specs.declared.geo.Geo.{Geo}
 use Rattle.sop_model.specs.declared.geo.Row.{Row}
-use Rattle.sop_model.specs.declared.geo.Primitive.{Primitive}
 use Rattle.sop_model.specs.Limits.{most_groups}
 use Rattle.sop_model.specs.Names.{are_distinct}
 use Rattle.sop_model.specs.Merge.{first_names}
 use Rattle.geo_text.specs.declared.taker.Attributes.{Attributes}
-use Rattle.geo_text.specs.declared.taker.Vertex.{Vertex}
-use Rattle.geo_text.specs.declared.reference.Named.{Named}
 use Rattle.geo_text.specs.ObjStatements.{Place}
-use Rattle.geo_text.specs.ObjTaking.{made_of, begun, group_taken, flag_more, point_row, point_taken, prim_taken}
+use Rattle.geo_text.specs.ObjTaking.{made_of, begun, group_taken, flag_more, point_row, point_taken}
 use Rattle.geo_text.specs.ObjMeaning.{Piece, PointPiece, TexturePiece, NormalPiece, ShapePiece, GroupsPiece, NoPiece, Shaped, shapes_under, group_names, is_among, prim_of, vertex_of, place_of}
-use Rattle.geo_text.specs.ObjRun.{Marked, noted_at, noted_name, noted, unmarked, Taking, marked_by, with_prim, prim_behind, piece_taken, pieces_taken}
+use Rattle.geo_text.specs.ObjRun.{Marked, noted_at, noted_name, noted, Taking, marked_by, with_prim, prim_behind, pieces_taken}
 use Rattle.geo_text.proofs.ObjMaking.{group_made}
 use Rattle.geo_text.proofs.ObjGrouping.{Names, found, position_found, among_append, unmarked_name, none_among, some_among, marked_name, has_room, added, names_into, added_distinct, are_settled, settled_after, settled_same, first_among, first_into, among_last, same_name, or_parts, or_true}
 
@@ -58,15 +55,17 @@ module _ (has : Attributes) (textures normals : List Vec3) where
         | inl there ↦ subst (λ n. Complete n shapes) (sym (old there)) complete
         | inr new ↦ elim (cases_Bool (has_room names)) [
           | inl room ↦ subst (λ n. Complete n shapes) (sym (longer new room))
-            (λ y h more. complete y (or_parts (is_among names y) (bytes_eq y x) (sym (among_last names x y) ∙ h)).0 room)
+              (λ y h more. complete y (or_parts (is_among names y) (bytes_eq y x) (sym (among_last names x y) ∙ h)).0 room)
           | inr full ↦ subst (λ n. Complete n shapes) (sym (stays new full)) complete
         ]
       ]
     where
       old : is_among names x ≡ true → added x names ≡ names
       old h = rw h refl
+
       longer : is_among names x ≡ false → has_room names ≡ true → added x names ≡ names ++ x ∷ []
       longer n h = rw (n, h) refl
+
       stays : is_among names x ≡ false → has_room names ≡ false → added x names ≡ names
       stays n h = rw (n, h) refl
 
@@ -83,10 +82,10 @@ module _ (has : Attributes) (textures normals : List Vec3) where
       let flags = unmarked_name names done x new in
       elim (cases_Bool (has_room names)) [
         | inl room ↦ rw (room, new) (
-          ap (λ (g : Geo). record { geo = g; flags = map (is_among done) names ++ true ∷ [] }) (group_more points names x shapes (complete x new room))
-          ∙ ap (λ (f : List Bool). record { geo = made points (names ++ x ∷ []) shapes; flags = f })
-          (ap (λ l. l ++ true ∷ []) flags ∙ ap (λ b. map (is_among (done ++ x ∷ [])) names ++ b ∷ []) (sym (last_marked done x)) ∙ sym (map-append (is_among (done ++ x ∷ [])) names (x ∷ [])))
-        )
+            ap (λ (g : Geo). record { geo = g; flags = map (is_among done) names ++ true ∷ [] }) (group_more points names x shapes (complete x new room))
+            ∙ ap (λ (f : List Bool). record { geo = made points (names ++ x ∷ []) shapes; flags = f })
+            (ap (λ l. l ++ true ∷ []) flags ∙ ap (λ b. map (is_among (done ++ x ∷ [])) names ++ b ∷ []) (sym (last_marked done x)) ∙ sym (map-append (is_among (done ++ x ∷ [])) names (x ∷ [])))
+            )
         | inr full ↦ rw (full, new) (ap (λ (f : List Bool). record { geo = made points names shapes; flags = f }) flags)
       ]
     where

@@ -1,6 +1,6 @@
 -- Names of groups in order of first use, taken one by one.
-use Rattle.std.proofs.Common.{◌≡◌, ℕ, zero, suc, ◌+◌, ◌<◌, ◌≤◌, List, [], ◌∷◌, ◌++◌, length, map, take, drop, set, append_assoc, append-nil, length-append, refl, sym, ap, ◌∙◌, subst, arith, Option, Some, None, Bool, true, false, not, inl, inr, ◌⊎◌, cond}
-use Rattle.std.specs.Prelude.{◌&&◌, ◌||◌, nat_lt, filter, position, if◌then◌else◌, option_map}
+use Rattle.std.proofs.Common.{◌≡◌, ℕ, suc, ◌+◌, ◌<◌, ◌≤◌, List, [], ◌∷◌, ◌++◌, length, map, take, drop, set, append_assoc, append-nil, length-append, refl, sym, ap, ◌∙◌, subst, arith, Option, Some, None, Bool, true, false, not, inl, inr, cond}
+use Rattle.std.specs.Prelude.{◌||◌, nat_lt, filter, position, if◌then◌else◌, option_map}
 use Rattle.std.specs.List.{list_any, list_all, position_or_len}
 use Rattle.std.specs.Str.{bytes_eq}
 use Rattle.std.specs.Cmp.Lexicographic.{bytes_decides, nat_list_eq_equiv}
@@ -36,10 +36,10 @@ position_found x (y ∷ names) =
     elim (cases_Bool (bytes_eq y x)) [
       | inl same ↦ rw (same, first_test (length names)) refl
       | inr other ↦ rw other (
-        ap (λ b. cond b (Some (1 + position_or_len (λ y. bytes_eq y x) names)) None) (later_test (position_or_len (λ y. bytes_eq y x) names) (length names))
-        ∙ later (nat_lt (position_or_len (λ y. bytes_eq y x) names) (length names)) (position_or_len (λ y. bytes_eq y x) names)
-        ∙ ap (option_map (λ n. suc n)) (position_found x names)
-      )
+          ap (λ b. cond b (Some (1 + position_or_len (λ y. bytes_eq y x) names)) None) (later_test (position_or_len (λ y. bytes_eq y x) names) (length names))
+          ∙ later (nat_lt (position_or_len (λ y. bytes_eq y x) names) (length names)) (position_or_len (λ y. bytes_eq y x) names)
+          ∙ ap (option_map (λ n. suc n)) (position_found x names)
+          )
     ]
 
 -- ---- names among others
@@ -88,9 +88,9 @@ none_among (y ∷ names) x h =
     elim (cases_Bool (bytes_eq y x)) [
       | inl same ↦ (let no : Some 0 ≡ None = rw same at h in cc)
       | inr other ↦ (
-        let rest : option_map (λ n. suc n) (found x names) ≡ None = rw other at h in
-        ap (λ b. b || is_among names x) (nat_list_eq_equiv.symm x y ∙ other) ∙ none_among names x (none_of (found x names) rest)
-      )
+          let rest : option_map (λ n. suc n) (found x names) ≡ None = rw other at h in
+          ap (λ b. b || is_among names x) (nat_list_eq_equiv.symm x y ∙ other) ∙ none_among names x (none_of (found x names) rest)
+          )
     ]
   where
     none_of : (o : Option ℕ) → option_map (λ n. suc n) o ≡ None → o ≡ None
@@ -103,10 +103,10 @@ some_among (y ∷ names) x i h =
     elim (cases_Bool (bytes_eq y x)) [
       | inl same ↦ ap (λ b. b || is_among names x) (nat_list_eq_equiv.symm x y ∙ same)
       | inr other ↦ (
-        let rest : option_map (λ n. suc n) (found x names) ≡ Some i = rw other at h in
-        let (j, at) = some_of (found x names) i rest in
-        ap (λ b. bytes_eq x y || b) (some_among names x j at) ∙ or_true (bytes_eq x y)
-      )
+          let rest : option_map (λ n. suc n) (found x names) ≡ Some i = rw other at h in
+          let (j, at) = some_of (found x names) i rest in
+          ap (λ b. bytes_eq x y || b) (some_among names x j at) ∙ or_true (bytes_eq x y)
+          )
     ]
   where
     some_of : (o : Option ℕ) (i : ℕ) → option_map (λ n. suc n) o ≡ Some i → (j : ℕ) × (o ≡ Some j)
@@ -123,21 +123,21 @@ marked_name (y ∷ names) done x i distinct h =
     let parts = and_parts (not (is_among names y)) (are_distinct names) distinct in
     elim (cases_Bool (bytes_eq y x)) [
       | inl same ↦ (
-        let first : Some 0 ≡ Some i = rw same at h in
-        let zeroth : 0 ≡ i = cc in
-        let is : y ≡ x = (bytes_decides y x).0 same in
-        let alone : is_among names x ≡ false = subst (λ z. is_among names z ≡ false) is (not_false (is_among names y) parts.0) in
-        let here : true ≡ is_among (done ++ x ∷ []) y = sym (or_true (is_among done y)) ∙ ap (λ b. is_among done y || b) (sym same) ∙ sym (among_last done x y) in
-        ap (λ k. set (map (is_among done) (y ∷ names)) k true) (sym zeroth)
-        ∙ ap (λ b. b ∷ map (is_among done) names) here ∙ ap (λ l. is_among (done ++ x ∷ []) y ∷ l) (unmarked_name names done x alone)
-      )
+          let first : Some 0 ≡ Some i = rw same at h in
+          let zeroth : 0 ≡ i = cc in
+          let is : y ≡ x = (bytes_decides y x).0 same in
+          let alone : is_among names x ≡ false = subst (λ z. is_among names z ≡ false) is (not_false (is_among names y) parts.0) in
+          let here : true ≡ is_among (done ++ x ∷ []) y = sym (or_true (is_among done y)) ∙ ap (λ b. is_among done y || b) (sym same) ∙ sym (among_last done x y) in
+          ap (λ k. set (map (is_among done) (y ∷ names)) k true) (sym zeroth)
+          ∙ ap (λ b. b ∷ map (is_among done) names) here ∙ ap (λ l. is_among (done ++ x ∷ []) y ∷ l) (unmarked_name names done x alone)
+          )
       | inr other ↦ (
-        let rest : option_map (λ n. suc n) (found x names) ≡ Some i = rw other at h in
-        let (j, at, is) = shifted_some (found x names) i rest in
-        let here : is_among done y ≡ is_among (done ++ x ∷ []) y = sym (or_none (is_among done y)) ∙ ap (λ b. is_among done y || b) (sym other) ∙ sym (among_last done x y) in
-        ap (λ k. set (map (is_among done) (y ∷ names)) k true) is
-        ∙ ap (λ b. b ∷ set (map (is_among done) names) j true) here ∙ ap (λ l. is_among (done ++ x ∷ []) y ∷ l) (marked_name names done x j parts.1 at)
-      )
+          let rest : option_map (λ n. suc n) (found x names) ≡ Some i = rw other at h in
+          let (j, at, is) = shifted_some (found x names) i rest in
+          let here : is_among done y ≡ is_among (done ++ x ∷ []) y = sym (or_none (is_among done y)) ∙ ap (λ b. is_among done y || b) (sym other) ∙ sym (among_last done x y) in
+          ap (λ k. set (map (is_among done) (y ∷ names)) k true) is
+          ∙ ap (λ b. b ∷ set (map (is_among done) names) j true) here ∙ ap (λ l. is_among (done ++ x ∷ []) y ∷ l) (marked_name names done x j parts.1 at)
+          )
     ]
 
 -- ---- names taken one by one, while there is room
@@ -185,9 +185,9 @@ settled_last names x y h =
     elim (cases_Bool (is_among names y)) [
       | inl there ↦ rw (among_last names x y, there) refl
       | inr new ↦ (
-        let full : not (has_room names) ≡ true = ap (λ b. b || not (has_room names)) (sym new) ∙ h in
-        rw (last_length names x (not_false (has_room names) full)) (or_true (is_among (names ++ x ∷ []) y))
-      )
+          let full : not (has_room names) ≡ true = ap (λ b. b || not (has_room names)) (sym new) ∙ h in
+          rw (last_length names x (not_false (has_room names) full)) (or_true (is_among (names ++ x ∷ []) y))
+          )
     ]
 
 settled_added : (x : List ℕ) (names : Names) (y : List ℕ) → is_settled names y ≡ true → is_settled (added x names) y ≡ true
@@ -234,9 +234,9 @@ added_settled x names h =
     elim (cases_Bool (is_among names x)) [
       | inl there ↦ rw there refl
       | inr new ↦ (
-        let full : not (has_room names) ≡ true = ap (λ b. b || not (has_room names)) (sym new) ∙ h in
-        rw (new, not_false (has_room names) full) refl
-      )
+          let full : not (has_room names) ≡ true = ap (λ b. b || not (has_room names)) (sym new) ∙ h in
+          rw (new, not_false (has_room names) full) refl
+          )
     ]
 
 pub settled_same : (names more : Names) → are_settled names more ≡ true → names_into names more ≡ names
@@ -252,10 +252,10 @@ other_stays [] x y h = refl
 other_stays (z ∷ names) x y h =
     elim (cases_Bool (bytes_eq y z)) [
       | inl same ↦ (
-        let is : y ≡ z = (bytes_decides y z).0 same in
-        let apart : bytes_eq x z ≡ false = nat_list_eq_equiv.symm x z ∙ subst (λ w. bytes_eq w x ≡ false) is h in
-        rw (same, apart) (other_stays names x y h)
-      )
+          let is : y ≡ z = (bytes_decides y z).0 same in
+          let apart : bytes_eq x z ≡ false = nat_list_eq_equiv.symm x z ∙ subst (λ w. bytes_eq w x ≡ false) is h in
+          rw (same, apart) (other_stays names x y h)
+          )
       | inr other ↦ rw other (ap (λ b. bytes_eq x z || b) (other_stays names x y h))
     ]
 
@@ -265,9 +265,9 @@ first_among (y ∷ names) x =
     elim (cases_Bool (bytes_eq x y)) [
       | inl same ↦ rw same refl
       | inr other ↦ (
-        let flipped : bytes_eq y x ≡ false = nat_list_eq_equiv.symm y x ∙ other in
-        rw other (other_stays (first_names names) x y flipped ∙ first_among names x)
-      )
+          let flipped : bytes_eq y x ≡ false = nat_list_eq_equiv.symm y x ∙ other in
+          rw other (other_stays (first_names names) x y flipped ∙ first_among names x)
+          )
     ]
 
 filter_last : (p : List ℕ → Bool) (names : Names) (x : List ℕ) → filter p (names ++ x ∷ []) ≡ filter p names ++ filter p (x ∷ [])
@@ -293,19 +293,19 @@ first_last (y ∷ names) x =
     let step = ap (λ l. y ∷ filter (other_than y) l) (first_last names x) in
     elim (cases_Bool (bytes_eq x y)) [
       | inl same ↦ (
-        let flipped : bytes_eq y x ≡ true = nat_list_eq_equiv.symm y x ∙ same in
-        step ∙ elim (cases_Bool (is_among names x)) [
-          | inl there ↦ rw (same, there) refl
-          | inr new ↦ rw (same, new) (ap (λ l. y ∷ l) (gone_last y x (first_names names) flipped))
-        ]
-      )
+          let flipped : bytes_eq y x ≡ true = nat_list_eq_equiv.symm y x ∙ same in
+          step ∙ elim (cases_Bool (is_among names x)) [
+            | inl there ↦ rw (same, there) refl
+            | inr new ↦ rw (same, new) (ap (λ l. y ∷ l) (gone_last y x (first_names names) flipped))
+          ]
+          )
       | inr other ↦ (
-        let flipped : bytes_eq y x ≡ false = nat_list_eq_equiv.symm y x ∙ other in
-        step ∙ elim (cases_Bool (is_among names x)) [
-          | inl there ↦ rw (other, there) refl
-          | inr new ↦ rw (other, new) (ap (λ l. y ∷ l) (kept_last y x (first_names names) flipped))
-        ]
-      )
+          let flipped : bytes_eq y x ≡ false = nat_list_eq_equiv.symm y x ∙ other in
+          step ∙ elim (cases_Bool (is_among names x)) [
+            | inl there ↦ rw (other, there) refl
+            | inr new ↦ rw (other, new) (ap (λ l. y ∷ l) (kept_last y x (first_names names) flipped))
+          ]
+          )
     ]
 
 among_front : (k : ℕ) (names : Names) (x : List ℕ) → is_among names x ≡ false → is_among (take k names) x ≡ false
@@ -327,10 +327,10 @@ old_within k names x h =
       | inl there ↦ rw there refl
       | inr new ↦ elim (cases_lt (length names) k) [
         | inl short ↦ (
-          let all : take k names ≡ names = take_all k names (omega (arith, short)) in
-          let no : false ≡ true = sym new ∙ ap (λ l. is_among l x) all ∙ h in
-          absurd (cc)
-        )
+            let all : take k names ≡ names = take_all k names (omega (arith, short)) in
+            let no : false ≡ true = sym new ∙ ap (λ l. is_among l x) all ∙ h in
+            absurd (cc)
+            )
         | inr long ↦ rw (new, no_room k names long) refl
       ]
     ]
@@ -340,11 +340,11 @@ new_within k names x h =
     let new = among_front k names x h in
     elim (cases_lt (length names) k) [
       | inl short ↦ (
-        let all : take k names ≡ names = take_all k names (omega (arith, short)) in
-        let long = length-append names (x ∷ []) in
-        let whole : take k (names ++ x ∷ []) ≡ names ++ x ∷ [] = take_all k (names ++ x ∷ []) (omega (arith, short, long)) in
-        ap (added_within k x) all ∙ rw (h, room_left k names short) (sym whole)
-      )
+          let all : take k names ≡ names = take_all k names (omega (arith, short)) in
+          let long = length-append names (x ∷ []) in
+          let whole : take k (names ++ x ∷ []) ≡ names ++ x ∷ [] = take_all k (names ++ x ∷ []) (omega (arith, short, long)) in
+          ap (added_within k x) all ∙ rw (h, room_left k names short) (sym whole)
+          )
       | inr long ↦ rw (new, no_room k names long) (sym (take-append-le k names (x ∷ []) long))
     ]
 

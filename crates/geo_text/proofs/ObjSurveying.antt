@@ -1,5 +1,5 @@
 -- Lines that are counted one after the other.
-use Rattle.std.proofs.Common.{◌≡◌, ℕ, ◌+◌, ◌≤◌, List, [], ◌∷◌, length, map, refl, sym, ap, ◌∙◌, subst, arith, Option, Some, None, Bool, true}
+use Rattle.std.proofs.Common.{◌≡◌, ℕ, ◌≤◌, List, [], ◌∷◌, map, refl, ap, ◌∙◌, arith, Option, Some, None, true}
 use Rattle.std.specs.Borrow.{Bor}
 use Rattle.std.proofs.lemmas.Bool.Decides.{nat_tests}
 use Rattle.geo_text.specs.declared.obj_fault.ObjFault.{ObjFault}
@@ -7,8 +7,8 @@ use Rattle.geo_text.specs.declared.obj_fault.ObjFault.TheVariants as fault
 use Rattle.geo_text.specs.declared.reader.Keyword.{Keyword}
 use Rattle.geo_text.specs.declared.reader.Keyword.TheVariants as key
 use Rattle.geo_text.specs.ObjLines.{joined, words_of}
-use Rattle.geo_text.specs.ObjScan.{behind_line, lines_left, joined_left, words_here, line_in}
-use Rattle.geo_text.specs.ObjSurvey.{Seen, nothing_seen, seen_as, shape_seen, key_of, line_seen, all_seen, worded, worded_left, is_past, IsPast}
+use Rattle.geo_text.specs.ObjScan.{behind_line, lines_left, joined_left, words_here}
+use Rattle.geo_text.specs.ObjSurvey.{Seen, seen_as, shape_seen, key_of, line_seen, all_seen, worded_left, is_past, IsPast}
 use Rattle.geo_text.proofs.ObjLooping.{first_line}
 
 others_worded : (rest : Option (List ℕ)) → map words_of (lines_left rest) ≡ worded_left rest

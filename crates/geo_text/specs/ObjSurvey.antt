@@ -12,7 +12,7 @@ use Rattle.geo_text.specs.declared.reader.Keyword.{Keyword}
 use Rattle.geo_text.specs.declared.reader.Keyword.TheVariants as key
 use Rattle.geo_text.specs.declared.survey.Survey.{Survey}
 use Rattle.geo_text.specs.ObjLines.{words_of}
-use Rattle.geo_text.specs.ObjStatements.{Part, Absent, Statement, Point, Texture, Normal, Shape, reference_of, texture_in, normal_in, statement_of}
+use Rattle.geo_text.specs.ObjStatements.{Part, Absent, reference_of, texture_in, normal_in}
 use Rattle.geo_text.specs.ObjScan.{is_line_feed}
 
 -- what some lines have

@@ -5,6 +5,7 @@ mod fault;
 pub mod geo_maker;
 mod group_name;
 mod groups;
+pub mod obj;
 mod obj_fault;
 mod obj_lines;
 mod part;

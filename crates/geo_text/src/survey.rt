@@ -1,6 +1,6 @@
 // What the lines of an OBJ text have, counted before they are judged.
 ghost use Rattle.sop_model.specs.Values.{zero_vector};
-ghost use Rattle.std.specs.Prelude.{◌≡◌, ◌++◌, ◌∷◌, [], false, ◌≤◌, length, unwrap_or, OnOk, IfOk, IfErr};
+ghost use Rattle.std.specs.Prelude.{◌≡◌, ◌++◌, ◌∷◌, [], false, ◌<◌, ◌≤◌, length, unwrap_or, OnOk, IfOk, IfErr};
 ghost use Rattle.std.specs.List.{list_any};
 ghost use Rattle.geo_text.specs.ObjLines.{joined};
 ghost use Rattle.geo_text.specs.ObjScan.{words_here};
@@ -8,9 +8,10 @@ ghost use Rattle.geo_text.specs.ObjSurvey.{Seen, nothing_seen, has_texture, has_
 
 use crate::obj_fault::ObjFault;
 use crate::reader::{Keyword, keyword_of};
-use crate::reference::{has_normal, has_texture};
+use crate::reference::{Counts, has_normal, has_texture};
 use crate::scan::{next_line, next_word};
 use crate::taker::Attributes;
+use crate::totals::Totals;
 use crate::vectors::{has_six, normal_in, texture_in};
 use crate::zero::zero_vector;
 use sop_fixed::Vec3;
@@ -80,6 +81,34 @@ impl Survey {
             },
             textures: Vec::new(alloc),
             normals: Vec::new(alloc),
+        }
+    }
+
+    /// What a whole text has, of which these are all lines.
+    pub(crate) fn into_totals(self) -> Totals
+        ensures counts { result.counts ≡ record { points = self.points; textures = length self.textures.items; normals = length self.normals.items } }
+        ensures attributes { result.attributes ≡ self.attributes }
+        ensures textures { result.textures.items ≡ self.textures.items }
+        ensures normals { result.normals.items ≡ self.normals.items }
+        ensures most { (result.counts.textures < usize.MAX) × (result.counts.normals < usize.MAX) }
+    {
+        let Survey {
+            points,
+            prims: _,
+            vertices: _,
+            attributes,
+            textures,
+            normals,
+        } = self;
+        Totals {
+            counts: Counts {
+                points,
+                textures: textures.as_slice().len(),
+                normals: normals.as_slice().len(),
+            },
+            attributes,
+            textures,
+            normals,
         }
     }
 
