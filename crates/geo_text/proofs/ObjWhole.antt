@@ -163,4 +163,4 @@ text_told f bytes text totals has began same s is h =
     let at : Surveyed (without_mark bytes) totals = subst (λ t. Surveyed t totals) same s in
     whole_told f bytes totals (start_of began) (at.counts ∙ sym (seen_counts (without_mark bytes))) at.within
     (subst (λ t. IsTold f (outcome totals.attributes totals no_counts (said_at (ends_in (joined t)) (joined t)) (start_of began))) same
-      (subst (λ a. IsTold f (outcome a totals no_counts (said_at (ends_in (joined text)) (joined text)) (start_of began))) is h))
+    (subst (λ a. IsTold f (outcome a totals no_counts (said_at (ends_in (joined text)) (joined text)) (start_of began))) is h))

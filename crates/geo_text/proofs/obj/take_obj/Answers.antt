@@ -20,7 +20,7 @@ returns-clause-ok g c =
     let s = surveyed c.without_mark-text.result.now c.in-Ok.survey t.result c.in-Ok.ensures.seen c.in-Ok.ensures.within t.ensures.counts t.ensures.attributes t.ensures.textures t.ensures.normals in
     on_ok_weaker c.read_lines.result
     (text_taken c.args.bytes.now c.without_mark-text.result.now t.result (g.T.ObjTaker.attributes c.begin.new.self) (g.T.ObjTaker.taken c.begin.new.self) (g.T.ObjTaker.taken c.read_lines.new.taker)
-      c.without_mark-text.ensures s c.in_ok-begin.ensures.attributes c.in_ok-begin.ensures.taken)
+    c.without_mark-text.ensures s c.in_ok-begin.ensures.attributes c.in_ok-begin.ensures.taken)
     c.read_lines.ensures.ok
 
 pub returns-clause-err : goal.returns-clause-err
@@ -29,5 +29,5 @@ returns-clause-err g c =
     let s = surveyed c.without_mark-text.result.now c.in-Ok.survey t.result c.in-Ok.ensures.seen c.in-Ok.ensures.within t.ensures.counts t.ensures.attributes t.ensures.textures t.ensures.normals in
     IfErr-weaker c.read_lines.result _ _
     (λ f h. text_told f c.args.bytes.now c.without_mark-text.result.now t.result (g.T.ObjTaker.attributes c.begin.new.self) (g.T.ObjTaker.taken c.begin.new.self)
-      c.without_mark-text.ensures s c.in_ok-begin.ensures.attributes h)
+    c.without_mark-text.ensures s c.in_ok-begin.ensures.attributes h)
     c.read_lines.ensures.err
