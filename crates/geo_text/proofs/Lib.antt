@@ -8,6 +8,7 @@ pub mod ObjFound
 pub mod ObjGrouping
 pub mod ObjGeometry
 pub mod ObjWhole
+pub mod ObjWriter
 pub mod ObjVectors
 pub mod ObjNames
 pub mod ObjReferencing

@@ -13,3 +13,4 @@ pub mod ObjTaking
 pub mod ObjRun
 pub mod ObjLoop
 pub mod ObjSurvey
+pub mod ObjFlags

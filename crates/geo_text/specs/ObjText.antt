@@ -5,7 +5,7 @@
 -- and `l` for an open one, with a reference for each vertex. A reference is the number of a point from 1, and the number of the vertex from 1
 -- as its texture coordinate and its normal, where there are such lines; an `l` names no normal. Before a primitive whose groups differ from
 -- those of the one before, none before the first, stands `g` with their names in order. Each line ends with LF.
-use Rattle.std.specs.Prelude.{ℕ, ◌+◌, Bool, true, false, if◌then◌else◌, ◌&&◌, List, [], ◌∷◌, ◌++◌, position, slice_get, Option, None, Some, is_some, codes, decimal}
+use Rattle.std.specs.Prelude.{ℕ, ◌+◌, Bool, true, false, not, if◌then◌else◌, ◌&&◌, List, [], ◌∷◌, ◌++◌, map, position, slice_get, Option, None, Some, is_some, codes, decimal}
 use Rattle.std.specs.List.{flat_map, items_where_true}
 use Rattle.std.specs.Option.{option_and_then}
 use Rattle.std.specs.Str.{bytes_eq}
@@ -21,6 +21,7 @@ use Rattle.sop_model.specs.declared.geo.Primitive.{Primitive}
 use Rattle.sop_model.specs.declared.value.Kind.{Kind}
 use Rattle.sop_model.specs.declared.value.Kind.TheVariants as kind
 use Rattle.sop_model.specs.Vertices.{size_of}
+use Rattle.geo_text.specs.declared.obj_writer.Parts.{Parts}
 use Rattle.sop_model.specs.Places.{vector_in, place_of}
 use Rattle.sop_model.specs.Geometry.{rows_of}
 
@@ -64,11 +65,6 @@ textures_text g = vector_lines (codes "vt") (vector_head g.vertex (codes "uv")) 
 abbrev pub normals_text : Geo → List ℕ
 normals_text g = vector_lines (codes "vn") (vector_head g.vertex (codes "N")) (rows_of g Vertex)
 
--- which parts references have behind the point
-pub record Parts : Type 0 where
-  pub texture : Bool
-  pub normal : Bool
-
 -- the parts of vertex k, from 1
 abbrev pub parts_text : Parts → ℕ → List ℕ
 parts_text parts k =
@@ -95,23 +91,31 @@ shape_line g before p = (if p.closed then codes "f" else codes "l") ++ reference
 abbrev pub groups_of : Geo → Primitive → List (List ℕ)
 groups_of g p = items_where_true p.row.flags g.prim.groups
 
-abbrev pub same_names : List (List ℕ) → List (List ℕ) → Bool
-same_names [] [] = true
-same_names (a ∷ names) (b ∷ others) = bytes_eq a b && same_names names others
-same_names _ _ = false
-
 abbrev pub groups_line : List (List ℕ) → List ℕ
 groups_line names = codes "g" ++ flat_map (λ name. codes " " ++ name) names ++ codes "\n"
 
--- a line for the groups of a primitive, where they differ from those before it
-abbrev pub change_of_groups : List (List ℕ) → List (List ℕ) → List ℕ
-change_of_groups before names = if same_names before names then [] else groups_line names
+-- whether two primitives are in the same groups
+abbrev pub same_flag : Bool → Bool → Bool
+same_flag true b = b
+same_flag false b = not b
 
--- primitives, where so many vertices stand before them and the one before is in these groups
-abbrev pub prims_text : Geo → ℕ → List (List ℕ) → List Primitive → List ℕ
-prims_text g before groups [] = []
-prims_text g before groups (p ∷ prims) =
-    change_of_groups groups (groups_of g p) ++ shape_line g before p ++ prims_text g (before + size_of p) (groups_of g p) prims
+abbrev pub same_flags : List Bool → List Bool → Bool
+same_flags [] [] = true
+same_flags (a ∷ flags) (b ∷ others) = same_flag a b && same_flags flags others
+same_flags _ _ = false
+
+-- a line for the groups of a primitive, where they differ from those before it
+abbrev pub change_of_groups : Geo → List Bool → Primitive → List ℕ
+change_of_groups g before p = if same_flags before p.row.flags then [] else groups_line (groups_of g p)
+
+-- primitives, where so many vertices stand before them, and the one before is in the groups with these flags
+abbrev pub prims_text : Geo → ℕ → List Bool → List Primitive → List ℕ
+prims_text g before flags [] = []
+prims_text g before flags (p ∷ prims) = change_of_groups g flags p ++ shape_line g before p ++ prims_text g (before + size_of p) p.row.flags prims
+
+-- a primitive before the first would be in none
+abbrev pub no_flags : Geo → List Bool
+no_flags g = map (λ group. false) g.prim.groups
 
 abbrev pub text_of : Geo → List ℕ
-text_of g = points_text g ++ textures_text g ++ normals_text g ++ prims_text g 0 [] g.prims
+text_of g = points_text g ++ textures_text g ++ normals_text g ++ prims_text g 0 (no_flags g) g.prims

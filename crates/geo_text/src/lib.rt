@@ -8,6 +8,7 @@ mod groups;
 pub mod obj;
 mod obj_fault;
 mod obj_lines;
+pub mod obj_writer;
 mod part;
 mod read;
 mod reader;
