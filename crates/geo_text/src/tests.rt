@@ -1,6 +1,7 @@
 // What no clause says: that the calls succeed with memory at hand.
 use crate::obj::obj_geometry;
 use crate::obj_fault::ObjFault as WholeFault;
+use crate::obj_writer::obj_text;
 use crate::{ObjFault, read_obj, write_obj};
 use std::test::Fail;
 
@@ -55,5 +56,19 @@ fn a_line_that_is_refused_is_told(rt: HostRuntime) -> Result<(), Fail> {
     assert!(rt; matches!(&number, Err(WholeFault::Number(3))));
     let index = obj_geometry(rt.alloc(), b"v 0 0 0\nf 1 -0 x\n");
     assert!(rt; matches!(&index, Err(WholeFault::Index(2))));
+    Ok(())
+}
+
+#[test]
+fn a_whole_text_comes_back(rt: HostRuntime) -> Result<(), Fail> {
+    let read = obj_geometry(
+        rt.alloc(),
+        b"v 0 0 0 1 0 0\nv 1 0 0\nvt 0.5\nvn 0 0 1\ng a b\nf 1/1 2//-1\nf 2\ng\nl 1//1\ng 1\nf 1\n",
+    )
+    .expect(&rt, "it is an OBJ text");
+    let text = obj_text(rt.alloc(), &read)?;
+    let wanted =
+        b"v 0 0 0 1 0 0\nv 1 0 0 0 0 0\nvt 0.5 0 0\nvt 0 0 0\nvt 0 0 0\nvt 0 0 0\nvt 0 0 0\nvn 0 0 0\nvn 0 0 1\nvn 0 0 0\nvn 0 0 1\nvn 0 0 0\ng a b\nf 1/1/1 2/2/2\nf 2/3/3\ng\nl 1/4\ng _1\nf 1/5/5\n";
+    assert_eq!(rt; text.as_slice(), &wanted[..]);
     Ok(())
 }
