@@ -9,6 +9,7 @@ pub mod ObjGrouping
 pub mod ObjGeometry
 pub mod ObjWhole
 pub mod ObjWriter
+pub mod ObjSound
 pub mod ObjVectors
 pub mod ObjNames
 pub mod ObjReferencing

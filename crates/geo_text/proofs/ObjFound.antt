@@ -40,15 +40,15 @@ six_words (x ∷ y ∷ z ∷ a ∷ b ∷ []) p e = without_colour (vector_in x y
 six_words (x ∷ y ∷ z ∷ a ∷ b ∷ c ∷ words) p e = with_colour (vector_in x y z) (vector_in a b c) p e ∙ sym (six_or_more x y z a b c words)
 
 -- ---- parts of references
-ok_of : {A B : Type 0} (f : A → B) (r : Result A Refusal) (y : B) → map_ok f r ≡ Ok y → (x : A) × (r ≡ Ok x) × (f x ≡ y)
+pub ok_of : {A B : Type 0} (f : A → B) (r : Result A Refusal) (y : B) → map_ok f r ≡ Ok y → (x : A) × (r ≡ Ok x) × (f x ≡ y)
 ok_of f (Err e) y h = cc
 ok_of f (Ok x) y h = (x, refl, cc)
 
-ok_then : {A B : Type 0} (r : Result A Refusal) (f : A → Result B Refusal) (y : B) → and_then r f ≡ Ok y → (x : A) × (r ≡ Ok x) × (f x ≡ Ok y)
+pub ok_then : {A B : Type 0} (r : Result A Refusal) (f : A → Result B Refusal) (y : B) → and_then r f ≡ Ok y → (x : A) × (r ≡ Ok x) × (f x ≡ Ok y)
 ok_then (Err e) f y h = cc
 ok_then (Ok x) f y h = (x, refl, h)
 
-ended_ok : (line : ℕ) (long : Bool) (n m : Named) → at_end line long n ≡ Ok m → n ≡ m
+pub ended_ok : (line : ℕ) (long : Bool) (n m : Named) → at_end line long n ≡ Ok m → n ≡ m
 ended_ok line true n m h = cc
 ended_ok line false n m h = cc
 
@@ -68,7 +68,7 @@ parts_there line whole so_far r n h =
       part_there line whole.normals so_far.normals r.normal normal k ∙ ap (λ m. is_some m.normal) same,
     )
 
-put_ok : {A : Type 0} (r : Result A Refusal) (rest : Result (List A) Refusal) (ys : List A) → put_first r rest ≡ Ok ys → (x : A) × (xs : List A) × (r ≡ Ok x) × (rest ≡ Ok xs) × (x ∷ xs ≡ ys)
+pub put_ok : {A : Type 0} (r : Result A Refusal) (rest : Result (List A) Refusal) (ys : List A) → put_first r rest ≡ Ok ys → (x : A) × (xs : List A) × (r ≡ Ok x) × (rest ≡ Ok xs) × (x ∷ xs ≡ ys)
 put_ok (Err e) rest ys h = cc
 put_ok (Ok x) (Err e) ys h = cc
 put_ok (Ok x) (Ok xs) ys h = (x, xs, refl, refl, cc)
@@ -114,7 +114,7 @@ or_no : (b : Bool) → b ≡ (b || false)
 or_no true = refl
 or_no false = refl
 
-or_number_ok : {A : Type 0} (line : ℕ) (f : A → Piece) (o : Option A) (p : Piece) → or_number line f o ≡ Ok p → (x : A) × (o ≡ Some x) × (f x ≡ p)
+pub or_number_ok : {A : Type 0} (line : ℕ) (f : A → Piece) (o : Option A) (p : Piece) → or_number line f o ≡ Ok p → (x : A) × (o ≡ Some x) × (f x ≡ p)
 or_number_ok line f (Some x) p h = (x, refl, cc)
 or_number_ok line f None p h = cc
 
