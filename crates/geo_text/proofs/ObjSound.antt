@@ -135,3 +135,155 @@ points_below line whole so_far (w ∷ words) named h e =
       subst (All (λ n. n.point < whole.points)) all (All-cons (λ n. n.point < whole.points) n more (point_below line whole so_far (reference_of w) n h here) rest.0),
       ap length (sym all) ∙ ap (λ k. suc k) rest.1,
     )
+
+-- ---- one line
+abbrev pub IsSoundPiece : ℕ → Piece → Type 0
+IsSoundPiece total (ShapePiece closed corners) = (0 < length corners) × All (λ n. n.point < total) corners
+IsSoundPiece total (GroupsPiece names) = are_names names ≡ true
+IsSoundPiece total other = Unit {0}
+
+abbrev points_in : Piece → ℕ
+points_in (PointPiece place) = 1
+points_in other = 0
+
+abbrev prims_in : Piece → ℕ
+prims_in (ShapePiece closed corners) = 1
+prims_in other = 0
+
+abbrev vertices_in : Piece → ℕ
+vertices_in (ShapePiece closed corners) = length corners
+vertices_in other = 0
+
+record Keeps (total : ℕ) (statement : Statement) (p : Piece) : Type 0 where
+  sound : IsSoundPiece total p
+  prims : is_shape statement ≡ prims_in p
+  vertices : length (references_of statement) ≡ vertices_in p
+  points : (n : Counts) → (counted_in statement n).points ≡ points_in p + n.points
+
+none_kept : (total : ℕ) (statement : Statement) (p : Piece) → is_shape statement ≡ 0 → length (references_of statement) ≡ 0 → ((n : Counts) → (counted_in statement n).points ≡ n.points) → NoPiece ≡ p → Keeps total statement p
+none_kept total statement p a b c e = subst (Keeps total statement) e (record { sound = tt; prims = a; vertices = b; points = λ n. omega (arith, c n) })
+
+shape_kept : (line : ℕ) (whole so_far : Counts) (closed : Bool) (words : List (List ℕ)) (p : Piece) → so_far.points ≤ whole.points → piece_of line whole so_far (shape_in closed words) ≡ Ok p → Keeps whole.points (shape_in closed words) p
+shape_kept line whole so_far closed [] p h e = none_kept whole.points (shape_in closed []) p refl refl (λ n. refl) (cc)
+shape_kept line whole so_far closed (w ∷ words) p h e =
+    let (named, here, is) = ok_of (ShapePiece closed) (each_of (named_by line whole so_far) (map reference_of (w ∷ words))) p e in
+    let below = points_below line whole so_far (w ∷ words) named h here in
+    subst (Keeps whole.points (shape_in closed (w ∷ words))) is (record {
+      sound = (omega (arith, below.1), below.0);
+      prims = refl;
+      vertices = length-map (w ∷ words) reference_of ∙ sym below.1;
+      points = λ n. omega arith;
+    })
+
+words_kept : (line : ℕ) (whole so_far : Counts) (k : Keyword) (words : List (List ℕ)) (p : Piece) → so_far.points ≤ whole.points → list_all is_filled words ≡ true
+    → piece_of line whole so_far (statement_as k words) ≡ Ok p → Keeps whole.points (statement_as k words) p
+words_kept line whole so_far key.Point words p h f e =
+    let (place, here, is) = or_number_ok line PointPiece (place_in words) p e in
+    subst (Keeps whole.points (statement_as key.Point words)) is (record { sound = tt; prims = refl; vertices = refl; points = λ n. omega arith })
+words_kept line whole so_far key.Texture words p h f e =
+    let (v, here, is) = or_number_ok line TexturePiece (texture_in words) p e in
+    subst (Keeps whole.points (statement_as key.Texture words)) is (record { sound = tt; prims = refl; vertices = refl; points = λ n. omega arith })
+words_kept line whole so_far key.Normal words p h f e =
+    let (v, here, is) = or_number_ok line NormalPiece (normal_in words) p e in
+    subst (Keeps whole.points (statement_as key.Normal words)) is (record { sound = tt; prims = refl; vertices = refl; points = λ n. omega arith })
+words_kept line whole so_far key.Closed words p h f e = shape_kept line whole so_far true words p h e
+words_kept line whole so_far key.Open words p h f e = shape_kept line whole so_far false words p h e
+words_kept line whole so_far key.Check words p h f e =
+    let (all, _, is) = ok_of (λ all. NoPiece) (each_of (named_by line whole so_far) (map reference_of words)) p e in
+    none_kept whole.points (statement_as key.Check words) p refl refl (λ n. refl) is
+words_kept line whole so_far key.Groups words p h f e =
+    let is : GroupsPiece (map mended words) ≡ p = cc in
+    subst (Keeps whole.points (statement_as key.Groups words)) is (record { sound = mended_names words f; prims = refl; vertices = refl; points = λ n. omega arith })
+words_kept line whole so_far key.Other words p h f e = none_kept whole.points (statement_as key.Other words) p refl refl (λ n. refl) (cc)
+
+line_kept : (line : ℕ) (whole so_far : Counts) (words : List (List ℕ)) (p : Piece) → so_far.points ≤ whole.points → list_all is_filled words ≡ true
+    → piece_of line whole so_far (statement_of words) ≡ Ok p → Keeps whole.points (statement_of words) p
+line_kept line whole so_far [] p h f e = none_kept whole.points (statement_of []) p refl refl (λ n. refl) (cc)
+line_kept line whole so_far (w ∷ words) p h f e =
+    let parts = and_parts (is_filled w) (list_all is_filled words) f in
+    let says = key_says w words in
+    subst (λ s. Keeps whole.points s p) (sym says) (words_kept line whole so_far (key_of w) words p h parts.1 (ap (piece_of line whole so_far) (sym says) ∙ e))
+
+-- ---- all lines
+abbrev pub AreSound : ℕ → List Piece → Type 0
+AreSound total [] = Unit {0}
+AreSound total (p ∷ pieces) = IsSoundPiece total p × AreSound total pieces
+
+abbrev pub corners_in : List Shaped → ℕ
+corners_in shapes = sum_by (λ s. length s.corners) shapes
+
+pub record KeepAll (total : ℕ) (said : List Said) (pieces : List Piece) : Type 0 where
+  pub sound : AreSound total pieces
+  pub points : (counts_of said).points ≡ length (filter_map place_of pieces)
+  pub prims : (groups : List (List ℕ)) → sum_by (λ s. is_shape s.statement) said ≡ length (shapes_under groups pieces)
+  pub vertices : (groups : List (List ℕ)) → sum_by (λ s. length (references_of s.statement)) said ≡ corners_in (shapes_under groups pieces)
+
+points_more : (p : Piece) (pieces : List Piece) → points_in p + length (filter_map place_of pieces) ≡ length (filter_map place_of (p ∷ pieces))
+points_more (PointPiece place) pieces = omega arith
+points_more (TexturePiece v) pieces = omega arith
+points_more (NormalPiece v) pieces = omega arith
+points_more (ShapePiece closed corners) pieces = omega arith
+points_more (GroupsPiece names) pieces = omega arith
+points_more NoPiece pieces = omega arith
+
+abbrev behind : List (List ℕ) → Piece → List (List ℕ)
+behind groups (GroupsPiece names) = names
+behind groups other = groups
+
+prims_more : (groups : List (List ℕ)) (p : Piece) (pieces : List Piece) → prims_in p + length (shapes_under (behind groups p) pieces) ≡ length (shapes_under groups (p ∷ pieces))
+prims_more groups (PointPiece place) pieces = omega arith
+prims_more groups (TexturePiece v) pieces = omega arith
+prims_more groups (NormalPiece v) pieces = omega arith
+prims_more groups (ShapePiece closed corners) pieces = omega arith
+prims_more groups (GroupsPiece names) pieces = omega arith
+prims_more groups NoPiece pieces = omega arith
+
+vertices_more : (groups : List (List ℕ)) (p : Piece) (pieces : List Piece) → vertices_in p + corners_in (shapes_under (behind groups p) pieces) ≡ corners_in (shapes_under groups (p ∷ pieces))
+vertices_more groups (PointPiece place) pieces = omega arith
+vertices_more groups (TexturePiece v) pieces = omega arith
+vertices_more groups (NormalPiece v) pieces = omega arith
+vertices_more groups (ShapePiece closed corners) pieces =
+    let s : Shaped = record { closed = closed; corners = corners; groups = groups } in sym (sum_by-cons (λ (s : Shaped). length s.corners) s (shapes_under groups pieces))
+vertices_more groups (GroupsPiece names) pieces = omega arith
+vertices_more groups NoPiece pieces = omega arith
+
+pub lines_kept : (whole so_far : Counts) (number : ℕ) (lines : List (List ℕ)) (pieces : List Piece) → counts_sum so_far (counts_of (said_lines number lines)) ≡ whole
+    → pieces_of whole so_far (said_lines number lines) ≡ Ok pieces → KeepAll whole.points (said_lines number lines) pieces
+lines_kept whole so_far number [] pieces c e =
+    let none : [] ≡ pieces = cc in
+    subst (KeepAll whole.points []) none (record { sound = tt; points = refl; prims = λ groups. refl; vertices = λ groups. refl })
+lines_kept whole so_far number (line ∷ lines) pieces c e =
+    let words = words_of line in
+    let next = number + (joints_in line + 1) in
+    let more = said_lines next lines in
+    let s : Said = record { line = number; statement = statement_of words } in
+    let after = counted_in s.statement so_far in
+    let (p, ps, here, later, all) = put_ok (piece_of number whole so_far s.statement) (pieces_of whole after more) pieces e in
+    let below = counts_below so_far (counts_of (s ∷ more)) whole c in
+    let one = line_kept number whole so_far words p below.points (words_filled line) here in
+    let rest = lines_kept whole after next lines ps (counts_more so_far whole (s ∷ more) s more refl c) later in
+    subst (KeepAll whole.points (s ∷ more)) all (record {
+      sound = (one.sound, rest.sound);
+      points = one.points (counts_of more) ∙ ap (λ n. points_in p + n) rest.points ∙ points_more p ps;
+      prims = λ groups. sum_by-cons (λ (s : Said). is_shape s.statement) s more ∙ ap (λ n. n + sum_by (λ (s : Said). is_shape s.statement) more) one.prims
+          ∙ ap (λ n. prims_in p + n) (rest.prims (behind groups p)) ∙ prims_more groups p ps;
+      vertices = λ groups. sum_by-cons (λ (s : Said). length (references_of s.statement)) s more ∙ ap (λ n. n + sum_by (λ (s : Said). length (references_of s.statement)) more) one.vertices
+          ∙ ap (λ n. vertices_in p + n) (rest.vertices (behind groups p)) ∙ vertices_more groups p ps;
+    })
+
+-- ---- primitives
+pub record IsSoundShape (total : ℕ) (s : Shaped) : Type 0 where
+  pub some : 0 < length s.corners
+  pub points : All (λ n. n.point < total) s.corners
+  pub names : are_names s.groups ≡ true
+
+pub shapes_sound : (total : ℕ) (groups : List (List ℕ)) (pieces : List Piece) → are_names groups ≡ true → AreSound total pieces → All (IsSoundShape total) (shapes_under groups pieces)
+shapes_sound total groups [] h sound = All-nil (IsSoundShape total)
+shapes_sound total groups (PointPiece place ∷ pieces) h sound = shapes_sound total groups pieces h sound.1
+shapes_sound total groups (TexturePiece v ∷ pieces) h sound = shapes_sound total groups pieces h sound.1
+shapes_sound total groups (NormalPiece v ∷ pieces) h sound = shapes_sound total groups pieces h sound.1
+shapes_sound total groups (ShapePiece closed corners ∷ pieces) h sound =
+    All-cons (IsSoundShape total) (record { closed = closed; corners = corners; groups = groups }) (shapes_under groups pieces)
+    (record { some = sound.0.0; points = sound.0.1; names = h }) (shapes_sound total groups pieces h sound.1)
+shapes_sound total groups (GroupsPiece names ∷ pieces) h sound = shapes_sound total names pieces sound.0 sound.1
+shapes_sound total groups (NoPiece ∷ pieces) h sound = shapes_sound total groups pieces h sound.1
