@@ -1,3 +1,18 @@
+pub mod ObjScanning
+pub mod ObjMaking
+pub mod ObjReader
+pub mod ObjLooping
+pub mod ObjSurveying
+pub mod ObjCounting
+pub mod ObjFound
+pub mod ObjGrouping
+pub mod ObjGeometry
+pub mod ObjWhole
+pub mod ObjWriter
+pub mod ObjSound
+pub mod ObjVectors
+pub mod ObjNames
+pub mod ObjReferencing
 pub mod Plain
 pub mod Words
 pub mod Lines
@@ -8,3 +23,4 @@ mod Writing
 mod Examples
 pub mod Listed
 mod ListingExamples
+mod ObjExamples

@@ -4,3 +4,15 @@ pub mod ObjFirst
 pub mod ObjWriting
 pub mod ValueTexts
 pub mod Listing
+pub mod ObjLines
+pub mod ObjStatements
+pub mod ObjMeaning
+pub mod ObjText
+pub mod Carried
+pub mod ObjScan
+pub mod ObjReferences
+pub mod ObjTaking
+pub mod ObjRun
+pub mod ObjLoop
+pub mod ObjSurvey
+pub mod ObjFlags

@@ -3,11 +3,26 @@
 
 mod fault;
 mod listing;
+pub mod geo_maker;
+mod group_name;
+mod groups;
+pub mod obj;
+mod obj_fault;
+mod obj_lines;
+pub mod obj_writer;
 mod part;
 mod read;
+mod reader;
+mod reference;
+mod scan;
 mod sheet;
 mod value_text;
+mod survey;
+pub mod taker;
+mod totals;
+mod vectors;
 mod write;
+mod zero;
 
 pub use fault::ObjFault;
 pub use listing::write_list;

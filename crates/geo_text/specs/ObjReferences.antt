@@ -1,0 +1,53 @@
+-- References as private contracts speak of them.
+use Rattle.std.specs.Prelude.{◌≡◌, ◌⊎◌, ℕ, ◌<◌, ◌≤◌, Bool, true, false, ◌==◌, List, [], ◌∷◌, Option, None, Some, Result, Ok, Err}
+use Rattle.std.specs.List.{slice_split}
+use Rattle.std.specs.Borrow.{Bor}
+use Rattle.sop_model.specs.Limits.{most_points}
+use Rattle.geo_text.specs.declared.reference.WordFault.{WordFault}
+use Rattle.geo_text.specs.declared.reference.WordFault.TheVariants as fault
+use Rattle.geo_text.specs.declared.reference.Counts.{Counts}
+use Rattle.geo_text.specs.declared.reference.Parts.{Parts}
+use Rattle.geo_text.specs.ObjStatements.{Reference, part_of}
+use Rattle.geo_text.specs.ObjMeaning.{Refusal, Number, Index}
+
+abbrev pub refusal : ℕ → WordFault → Refusal
+refusal line fault.Number = Number line
+refusal line fault.Index = Index line
+
+-- what a word of this line gives
+abbrev pub told : {A : Type 0} → ℕ → Result A WordFault → Result A Refusal
+told line (Ok x) = Ok x
+told line (Err f) = Err (refusal line f)
+
+abbrev pub parts_of : List ℕ → List (List ℕ)
+parts_of text = slice_split (λ b. b == 47) text
+
+-- the parts behind a slash, where there is one
+abbrev pub parts_left : Option (Bor (List ℕ)) → List (List ℕ)
+parts_left None = []
+parts_left (Some rest) = parts_of rest.now
+
+-- of some parts: the first and those behind it, or an empty one where there are none
+abbrev pub IsNextPart : List (List ℕ) → List ℕ → List (List ℕ) → Type 0
+IsNextPart parts part rest = (parts ≡ part ∷ rest) ⊎ ((parts ≡ []) × (part ≡ []) × (rest ≡ []))
+
+-- whether more stands behind a slash than the end
+abbrev pub goes_on : List (List ℕ) → Bool
+goes_on [] = false
+goes_on ([] ∷ []) = false
+goes_on _ = true
+
+abbrev pub reference_seen : Parts → Reference
+reference_seen p = record { point = part_of p.point.now; texture = part_of p.texture.now; normal = part_of p.normal.now; is_long = p.is_long }
+
+-- counts of a whole text: points within the limit, and others that a number of 64 bits can pass
+pub record AreCounts (whole : Counts) : Type 0 where
+  pub points : whole.points ≤ most_points
+  pub textures : whole.textures < 18446744073709551615
+  pub normals : whole.normals < 18446744073709551615
+
+-- counts of the lines before one
+pub record AreSoFar (whole so_far : Counts) : Type 0 where
+  pub points : so_far.points ≤ whole.points
+  pub textures : so_far.textures ≤ whole.textures
+  pub normals : so_far.normals ≤ whole.normals

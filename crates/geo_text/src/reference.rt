@@ -1,0 +1,210 @@
+// References to points, texture coordinates and normals.
+ghost use Rattle.std.specs.Prelude.{◌≡◌, ℕ, ◌<◌, ◌≤◌, ◌∷◌, ◌==◌, ◌-◌, IfOk, nat_lt, nat_le, ◌&&◌, position};
+ghost use Rattle.sop_fixed.specs.Numerals.{has_minus, after_sign, is_some_digits};
+ghost use Rattle.sop_model.specs.Limits.{most_points};
+ghost use Rattle.geo_text.specs.ObjStatements.{part_of, reference_of};
+ghost use Rattle.geo_text.specs.ObjMeaning.{within, needed, optional, named_by};
+ghost use Rattle.geo_text.specs.ObjSurvey.{has_texture, has_normal};
+ghost use Rattle.geo_text.specs.ObjReferences.{told, parts_of, parts_left, IsNextPart, goes_on, reference_seen, AreCounts, AreSoFar};
+
+use sop_fixed::{are_digits, read_digits};
+
+/// Why a word of a line is refused.
+#[derive(Clone, Copy, Debug, PartialEq, Eq)]
+pub(crate) enum WordFault {
+    /// It isn't the number that is wanted.
+    Number,
+    /// It names no element.
+    Index,
+}
+
+/// How many elements there are of each kind.
+#[derive(Clone, Copy, Debug)]
+pub(crate) struct Counts {
+    /// The `v` lines.
+    pub(crate) points: usize,
+    /// The `vt` lines.
+    pub(crate) textures: usize,
+    /// The `vn` lines.
+    pub(crate) normals: usize,
+}
+
+/// The elements that a reference names, by their numbers from 0.
+#[derive(Clone, Copy, Debug)]
+pub(crate) struct Named {
+    pub(crate) point: usize,
+    pub(crate) texture: Option<usize>,
+    pub(crate) normal: Option<usize>,
+}
+
+/// The parts of a reference; those that aren't there are empty.
+#[derive(Clone, Copy)]
+struct Parts<'a> {
+    point: &'a [u8],
+    texture: &'a [u8],
+    normal: &'a [u8],
+    /// Whether a fourth part stands behind them.
+    is_long: bool,
+}
+
+fn slash_at(text: &[u8]) -> Option<usize>
+    ensures { result ≡ position (λ b. b == 47) text.now }
+{
+    text.iter().position(|b| *b == b'/')
+}
+
+/// What stands before the first slash, and what stands behind it where there is one.
+fn split_part(text: &[u8]) -> (&[u8], Option<&[u8]>)
+    ensures { parts_of text.now ≡ result.0.now ∷ parts_left result.1 }
+{
+    match slash_at(text) {
+        Some(i) => (&text[..i], Some(&text[i + 1..])),
+        None => (text, None),
+    }
+}
+
+/// The next part, which is empty where there is none, and what stands behind it.
+fn next_part(rest: Option<&[u8]>) -> (&[u8], Option<&[u8]>)
+    ensures { IsNextPart (parts_left rest.entry) result.0.now (parts_left result.1) }
+{
+    match rest {
+        Some(text) => split_part(text),
+        None => (b"", None),
+    }
+}
+
+/// Whether more stands behind a slash than the end of the word.
+fn goes_on(rest: Option<&[u8]>) -> bool
+    ensures { result ≡ goes_on (parts_left rest.entry) }
+{
+    match rest {
+        Some(text) => !text.is_empty(),
+        None => false,
+    }
+}
+
+fn split_parts(word: &[u8]) -> Parts<'_>
+    ensures { reference_seen result ≡ reference_of word.now }
+{
+    let (point, rest) = split_part(word);
+    let (texture, rest) = next_part(rest);
+    let (normal, rest) = next_part(rest);
+    Parts {
+        point,
+        texture,
+        normal,
+        is_long: goes_on(rest),
+    }
+}
+
+/// Whether the text begins with a minus, and what follows its sign.
+fn split_sign(text: &[u8]) -> (bool, &[u8])
+    ensures minus { result.0 ≡ has_minus text.now }
+    ensures after { result.1.now ≡ after_sign text.now }
+{
+    match text {
+        [b'-', after @ ..] => (true, after),
+        [b'+', after @ ..] => (false, after),
+        _ => (false, text),
+    }
+}
+
+fn is_some_digits(text: &[u8]) -> bool
+    ensures { result ≡ is_some_digits text.now }
+{
+    !text.is_empty() && are_digits(text)
+}
+
+/// The element that a number from 1 to `so_far` counts back to.
+fn back(number: u64, so_far: usize) -> Option<usize>
+    ensures { result ≡ within (nat_lt 0 number && nat_le number so_far) (so_far - number) }
+{
+    if number > 0 && number <= so_far as u64 {
+        Some(so_far - number as usize)
+    } else {
+        None
+    }
+}
+
+/// The element of a number from 1 to `whole`.
+fn ahead(number: u64, whole: usize) -> Option<usize>
+    ensures { result ≡ within (nat_lt 0 number && nat_le number whole) (number - 1) }
+{
+    if number > 0 && number <= whole as u64 {
+        Some(number as usize - 1)
+    } else {
+        None
+    }
+}
+
+/// The element that a part names, which must be there.
+fn needed(part: &[u8], whole: usize, so_far: usize) -> Result<usize, WordFault>
+    requires whole { whole < usize.MAX }
+    requires so_far { so_far ≤ whole }
+    ensures value { (line : ℕ) → told line result ≡ needed line whole so_far (part_of part.now) }
+    ensures below { IfOk result (λ element. element < whole) }
+{
+    let (is_back, digits) = split_sign(part);
+    if !is_some_digits(digits) {
+        return Err(WordFault::Number);
+    }
+    let number = read_digits(digits, u64::MAX);
+    let element = if is_back {
+        back(number, so_far)
+    } else {
+        ahead(number, whole)
+    };
+    element.ok_or(WordFault::Index)
+}
+
+/// The element that a part names, where it is there.
+fn optional(part: &[u8], whole: usize, so_far: usize) -> Result<Option<usize>, WordFault>
+    requires whole { whole < usize.MAX }
+    requires so_far { so_far ≤ whole }
+    ensures { (line : ℕ) → told line result ≡ optional line whole so_far (part_of part.now) }
+{
+    if part.is_empty() {
+        return Ok(None);
+    }
+    Ok(Some(needed(part, whole, so_far)?))
+}
+
+/// The elements that a word names, where there are `whole` in the text, and `so_far` before the line. The first part that
+/// isn't a number or names no element decides.
+pub(crate) fn read_reference(
+    word: &[u8],
+    whole: &Counts,
+    so_far: &Counts,
+) -> Result<Named, WordFault>
+    requires whole { AreCounts whole.now }
+    requires so_far { AreSoFar whole.now so_far.now }
+    ensures point { IfOk result (λ n. n.point < most_points) }
+    ensures value { (line : ℕ) → told line result ≡ named_by line whole.now so_far.now (reference_of word.now) }
+{
+    let parts = split_parts(word);
+    let point = needed(parts.point, whole.points, so_far.points)?;
+    let texture = optional(parts.texture, whole.textures, so_far.textures)?;
+    let normal = optional(parts.normal, whole.normals, so_far.normals)?;
+    if parts.is_long {
+        return Err(WordFault::Number);
+    }
+    Ok(Named {
+        point,
+        texture,
+        normal,
+    })
+}
+
+/// Whether a reference has a texture coordinate.
+pub(crate) fn has_texture(word: &[u8]) -> bool
+    ensures { result ≡ has_texture word.now }
+{
+    !split_parts(word).texture.is_empty()
+}
+
+/// Whether a reference has a normal.
+pub(crate) fn has_normal(word: &[u8]) -> bool
+    ensures { result ≡ has_normal word.now }
+{
+    !split_parts(word).normal.is_empty()
+}
