@@ -1,5 +1,5 @@
 // What is done with geometries in a vault.
-ghost use Rattle.std.specs.Prelude.{◌≡◌, ◌<◌, ◌≤◌, IfSome, IsSomeAnd, IsPermutation};
+ghost use Rattle.std.specs.Prelude.{◌≡◌, ◌≢◌, ℕ, ◌<◌, ◌≤◌, None, IfOk, IfSome, IsSomeAnd, IsPermutation};
 ghost use Rattle.std.specs.List.{range_with_len};
 ghost use Rattle.sop_model.specs.Geometry.{IsReadable};
 ghost use Rattle.sop_model.specs.Limits.{most_points};
@@ -16,7 +16,7 @@ use sop_model::{Class, GeoView};
 use sop_rows::Marks;
 use sop_sheets::GeoRef;
 use sop_vault::{GeoKey, Vault};
-use std::alloc::Global;
+use std::alloc::{AllocError, Global};
 
 /// How often each point is set, so that a run is long enough to be timed.
 const ROUNDS: u32 = 20;
@@ -211,19 +211,25 @@ fn reordered(alloc: Global, vault: &mut Vault<'_>, points: u32) -> Option<GeoKey
     ensures { IfSome result (λ key. IsLive vault.new.geos key) }
 {
     let key = grid(vault, points)?;
-    let order = random_order(alloc, points)?;
+    let order = random_order(alloc, points).ok()?;
     vault.reorder(key, Class::Point, &order).ok()?;
     Some(key)
 }
 
 /// The numbers from 0 to before `count`, at random places.
-fn random_order(alloc: Global, count: u32) -> Option<Vec<u32>>
-    ensures { IfSome result (λ order. IsPermutation (range_with_len 0 count) order.items) }
+fn random_order(alloc: Global, count: u32) -> Result<Vec<u32>, AllocError>
+    ensures { IfOk result (λ order. IsPermutation (range_with_len 0 count) order.items) }
 {
     let mut numbers = Numbers::new();
-    let mut order = (0..count).collect::<Vec<u32>>(alloc).ok()?;
+    let mut order = numbers_below(alloc, count)?;
     for place in 0..count {
         order.swap(place as usize, numbers.index_below(count) as usize);
     }
-    Some(order)
+    Ok(order)
+}
+
+fn numbers_below(alloc: Global, count: u32) -> Result<Vec<u32>, AllocError>
+    ensures { IfOk result (λ numbers. numbers.items ≡ range_with_len 0 count) }
+{
+    (0..count).collect(alloc)
 }
