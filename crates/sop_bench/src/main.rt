@@ -16,8 +16,8 @@
 //!   a grid, whose points have places of their own besides, and `vault-grids` two of them.
 //! - `vault-append` merges two grids into a third one, 21 times; `vault-share` shares a grid and drops the copy, 1,000 times;
 //!   `vault-keep` takes every second point of one away, and `vault-reorder` puts the points of one in a random order.
-//! - `vault-set` sets the place of each of SIZE points, 20 times. `vault-set-shared` shares a grid and sets the place of each
-//!   of the copy's points, and `vault-set-pages` prints how many pages that adds.
+//! - `vault-set` makes SIZE points and sets the place of each, and `vault-set-again` does so 20 times. `vault-set-shared` shares
+//!   a grid and sets the place of each of the copy's points, and `vault-set-pages` prints how many pages that adds.
 //!
 //! It reads no clock: it is timed from outside. The status is 2 where the words have another form, and 1 where there is no
 //! result.

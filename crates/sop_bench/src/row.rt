@@ -40,7 +40,7 @@ pub enum Row {
 }
 
 /// Each row's name.
-const ROWS: [(&str, Row); 35] = [
+const ROWS: [(&str, Row); 36] = [
     ("none", Row::Nothing),
     ("mul", Row::Numbers(Operation::Mul)),
     ("div", Row::Numbers(Operation::Div)),
@@ -72,6 +72,7 @@ const ROWS: [(&str, Row); 35] = [
     ("vault-append", Row::Make(Making::Merged)),
     ("vault-share", Row::Make(Making::Shared)),
     ("vault-set", Row::Make(Making::Set)),
+    ("vault-set-again", Row::Make(Making::SetAgain)),
     ("vault-set-shared", Row::SetShared(Telling::Sum)),
     ("vault-set-pages", Row::SetShared(Telling::Pages)),
     ("vault-keep", Row::Make(Making::Kept)),

@@ -18,7 +18,7 @@ use sop_sheets::GeoRef;
 use sop_vault::{GeoKey, Vault};
 use std::alloc::{AllocError, Global};
 
-/// How often each point is set, so that a run is long enough to be timed.
+/// How often each point is set again, so that little but these sets is timed.
 const ROUNDS: u32 = 20;
 
 /// How often a geometry is shared and dropped.
@@ -42,8 +42,10 @@ pub enum Making {
     Merged,
     /// A grid that is shared and dropped again and again.
     Shared,
-    /// Points that are set again and again.
+    /// Points that are set.
     Set,
+    /// Points that are set again and again.
+    SetAgain,
     /// A grid without every second point.
     Kept,
     /// A grid whose points have another order.
@@ -63,7 +65,8 @@ impl Making {
             Making::Grids => Some(grids(vault, size)?.0),
             Making::Merged => merged_again(vault, size),
             Making::Shared => shared(vault, size),
-            Making::Set => set_again(vault, size),
+            Making::Set => set(vault, size, 1),
+            Making::SetAgain => set(vault, size, ROUNDS),
             Making::Kept => kept(alloc, vault, size),
             Making::Reordered => reordered(alloc, vault, size),
         }
@@ -109,11 +112,12 @@ fn share_and_set(vault: &mut Vault<'_>, key: GeoKey, points: u32) -> Option<GeoK
     Some(copy)
 }
 
-fn set_again(vault: &mut Vault<'_>, points: u32) -> Option<GeoKey>
+/// Points, each of which is set in each round.
+fn set(vault: &mut Vault<'_>, points: u32, rounds: u32) -> Option<GeoKey>
     ensures { IfSome result (λ key. IsLive vault.new.geos key) }
 {
     let key = with_points(vault, points)?;
-    for round in 0..ROUNDS {
+    for round in 0..rounds {
         place_points(vault, key, points, round)?;
     }
     Some(key)
