@@ -17,6 +17,7 @@ puts the tables of the whole measurement into docs/BENCH.md with the date.
 """
 import os
 import sys
+from typing import NamedTuple, Optional
 
 import page
 from timing import WALL, arguments, build_peer, measure, ratio, run, shown, status_of, tell
@@ -29,15 +30,25 @@ LONG_SCAN = 100_000  # points: the plain scan of so many takes half a minute, so
 WORKERS = (1, 2, 4)
 LEAST_SPEEDUP = 3
 
-MOST_TIMES_MERGE, MOST_TIMES_SET = 2.5, 5
-VAULT = (  # a row, its size, the row that makes what it begins with, the most times the peer's seconds and memory
-    ("vault-quads", 1_000_000, "none", None, None),
-    ("vault-append", 250_000, "vault-grids", MOST_TIMES_MERGE, MOST_TIMES_MERGE),
-    ("vault-set", 1_000_000, "none", MOST_TIMES_SET, None),
-    ("vault-set-again", 1_000_000, "vault-points", None, None),
-    ("vault-set-shared", 1_000_000, "vault-grid", None, None),
-    ("vault-keep", 1_000_000, "vault-grid", None, None),
-    ("vault-reorder", 1_000_000, "vault-grid", None, None),
+
+class VaultRow(NamedTuple):
+    """A row, the row that makes what it begins with, and the most times the peer's seconds and memory that it may take."""
+
+    name: str
+    size: int
+    begins_with: str
+    most_times: Optional[float] = None
+    most_memory: Optional[float] = None
+
+
+VAULT = (
+    VaultRow("vault-quads", 1_000_000, "none"),
+    VaultRow("vault-append", 250_000, "vault-grids", 2.5, 2.5),
+    VaultRow("vault-set", 1_000_000, "none", 5),
+    VaultRow("vault-set-again", 1_000_000, "vault-points"),
+    VaultRow("vault-set-shared", 1_000_000, "vault-grid"),
+    VaultRow("vault-keep", 1_000_000, "vault-grid"),
+    VaultRow("vault-reorder", 1_000_000, "vault-grid"),
 )
 SHARED = 1_000_000
 SHARES = 1000  # how often `vault-share` shares and drops
@@ -101,23 +112,23 @@ def workers(programs, runs, lines):
 def in_vault(programs, sizes, runs, lines):
     """A line for each row of geometries in a vault, and what doesn't hold."""
     problems = []
-    for row, size, less, most_times, most_memory in VAULT:
-        size = sizes(size)
-        ours, peers = measure(programs, row, size, runs, less=(less, size))
+    for row in VAULT:
+        size = sizes(row.size)
+        ours, peers = measure(programs, row.name, size, runs, less=(row.begins_with, size))
         times, memory = ratio(ours.seconds, peers.seconds), ours.memory / peers.memory
-        tell_vault(lines, row, size, ours, peers, shown(times), f"{memory:.2f}")
-        problems += unlike(row, size, ours, peers)
-        if most_times and times and times > most_times:
-            problems.append(f"{row}, {size:,}: {times:.2f} times as long as plain Rust")
-        if most_memory and memory > most_memory:
-            problems.append(f"{row}, {size:,}: {memory:.2f} times the memory of plain Rust")
+        tell_vault(lines, row.name, size, ours, peers, shown(times), shown(memory))
+        problems += unlike(row.name, size, ours, peers)
+        if row.most_times and times and times > row.most_times:
+            problems.append(f"{row.name}, {size:,}: {times:.2f} times as long as plain Rust")
+        if row.most_memory and memory > row.most_memory:
+            problems.append(f"{row.name}, {size:,}: {memory:.2f} times the memory of plain Rust")
     return problems + shares(programs, sizes(SHARED), runs, lines) + pages_of(programs, sizes(SHARED))
 
 
 def shares(programs, size, runs, lines):
     """A line for a geometry that is shared and dropped again and again, and what doesn't hold."""
     ours, peers = measure(programs, "vault-share", size, runs, less=("vault-grid", size))
-    tell_vault(lines, "vault-share", size, ours, peers, "", f"{ours.memory / peers.memory:.2f}")
+    tell_vault(lines, "vault-share", size, ours, peers, "", shown(ours.memory / peers.memory))
     slow = ours.seconds / SHARES >= MOST_SECONDS_A_SHARE
     problems = [f"vault-share, {size:,}: {ours.seconds / SHARES * 1000:.2f} ms a share"] if slow else []
     return problems + unlike("vault-share", size, ours, peers)

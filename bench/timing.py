@@ -11,7 +11,7 @@ from typing import NamedTuple
 import page
 
 PROGRAM = f"{page.TOP}/crates/sop_bench/out/sop_bench"
-SHORTEST = 0.01  # seconds: a ratio over a shorter time says nothing
+SHORTEST = 0.005  # seconds: a ratio over a shorter time says nothing
 PROCESSOR, WALL = "processor", "wall"
 
 
