@@ -4,4 +4,4 @@ pub mod VaultLemmas
 pub mod HeadLemmas
 pub mod ShareLemmas
 pub mod ElementLemmas
-pub mod LiveLemmas
+pub mod TakenLemmas

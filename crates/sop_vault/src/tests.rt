@@ -5,8 +5,8 @@ mod wants;
 
 use crate::{Vault, VaultEnd};
 use calls::{
-    add_attr, add_group, add_points, add_prim, add_vertex, del_attr, double, keep_without, new_key,
-    put_back, reverse, set_member, set_x, share,
+    add_attr, add_group, add_points, add_prim, add_vertex, double, keep_without, new_key, put_back,
+    reverse, set_member, set_x, share,
 };
 use looks::x_of;
 use sop_fixed::Int;
@@ -37,7 +37,6 @@ fn refusals_are_told(rt: HostRuntime) -> Result<(), Fail> {
     add_points(&mut vault, key, 2)?;
     assert_eq!(rt; add_attr(&mut vault, key, "a"), Ok(()));
     assert_eq!(rt; add_attr(&mut vault, key, "a"), Err(VaultEnd::Exists));
-    assert_eq!(rt; del_attr(&mut vault, key, "b"), Err(VaultEnd::NoAttr));
     assert_eq!(rt; add_group(&mut vault, key, "g"), Ok(()));
     assert_eq!(rt; add_group(&mut vault, key, "g"), Err(VaultEnd::Exists));
     assert_eq!(rt; set_member(&mut vault, key, 1), Ok(()));
@@ -45,6 +44,10 @@ fn refusals_are_told(rt: HostRuntime) -> Result<(), Fail> {
     assert_eq!(rt; add_prim(&mut vault, key, &[]), Ok(()));
     assert_eq!(rt; add_vertex(&mut vault, key, 0, 1), Ok(()));
     assert_eq!(rt; vault.view(key).count(Class::Vertex), 1);
+    assert_eq!(rt;
+        vault.del_attr(key, Class::Prim, "b"),
+        Err(VaultEnd::NoAttr)
+    );
     Ok(())
 }
 

@@ -7,7 +7,8 @@ ghost use Rattle.sop_model.specs.Names.{is_name};
 ghost use Rattle.sop_model.specs.Geometry.{IsReadable};
 ghost use Rattle.sop_model.specs.Rows.{kind_at, HasHead, HasElement};
 ghost use Rattle.sop_model.specs.Sweep.{AreMarksOf};
-ghost use Rattle.sop_vault.specs.Keyed.{IsLive, StayLive};
+ghost use Rattle.sop_vault.specs.Keyed.{IsLive};
+ghost use Rattle.sop_vault.specs.Living.{StayLive};
 
 use super::looks::has_place;
 use crate::{GeoKey, Vault, VaultEnd};
@@ -59,6 +60,9 @@ pub fn del_attr(vault: &mut Vault<'_>, key: GeoKey, name: &str) -> Result<(), Va
     requires { IsLive vault.old.geos key }
     ensures { StayLive vault.old.geos vault.new.geos }
 {
+    if vault.view(key).find(Class::Prim, name).is_none() {
+        return Err(VaultEnd::NoAttr);
+    }
     vault.del_attr(key, Class::Prim, name)
 }
 
@@ -159,7 +163,15 @@ pub fn reverse(alloc: Global, vault: &mut Vault<'_>, key: GeoKey) -> Result<(), 
 fn backwards(alloc: Global, count: u32) -> Result<Vec<u32>, AllocError>
     ensures { IfOk result (λ order. IsPermutation (range_with_len 0 count) order.items) }
 {
-    (0..count).rev().collect(alloc)
+    let mut numbers = numbers_below(alloc, count)?;
+    numbers.reverse();
+    Ok(numbers)
+}
+
+fn numbers_below(alloc: Global, count: u32) -> Result<Vec<u32>, AllocError>
+    ensures { IfOk result (λ numbers. numbers.items ≡ range_with_len 0 count) }
+{
+    (0..count).collect(alloc)
 }
 
 /// Puts a geometry behind itself.

@@ -1,7 +1,8 @@
 //! Each call of a vault that may take memory, and what stands where it gets none.
 ghost use Rattle.std.specs.Prelude.{IsTrue};
 ghost use Rattle.sop_model.specs.Names.{is_name};
-ghost use Rattle.sop_vault.specs.Keyed.{IsLive, StayLive};
+ghost use Rattle.sop_vault.specs.Keyed.{IsLive};
+ghost use Rattle.sop_vault.specs.Living.{StayLive};
 
 use super::calls::{
     add_and_drop, add_attr, add_group, add_points, add_prim, add_vertex, cell_of, del_attr, double,
