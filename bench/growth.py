@@ -4,10 +4,10 @@
     growth.py [PROGRAM] [--runs N] [--write]
 
 PROGRAM is the built crate sop_bench; it has no peer here, since a time is compared with the same row's at half the size.
-A time is the median of the runs in seconds of the processor, less that of an empty run, or of one that only makes the
-points. It checks that twice the size takes at most 2.3 times as long, and 2.5 times for near points, whose cells are
-sorted; and that a pattern that selects few points takes less time than one that selects half of them. The status is 0
-where all of that holds. --write puts the table into docs/BENCH.md with the date.
+A time is the median of the runs in seconds of the processor, less that of an empty run, or of one that only makes what
+the row begins with. It checks that twice the size takes at most 2.3 times as long, and 2.5 times for near points, whose
+cells are sorted; and that a pattern that selects few points takes less time than one that selects half of them. The
+status is 0 where all of that holds. --write puts the table into docs/BENCH.md with the date.
 """
 import os
 import sys
@@ -24,16 +24,20 @@ DOUBLED = [(f"tokens-{kind}", 65_536, MOST_TIMES) for kind in KINDS] + [
     ("wildcard-stars", 1024, MOST_TIMES),
     ("near", 20_000, MOST_TIMES_NEAR),
     ("near", 100_000, MOST_TIMES_NEAR),
+    ("vault-quads", 1_000_000, MOST_TIMES),
+    ("vault-keep", 1_000_000, MOST_TIMES),
+    ("vault-reorder", 1_000_000, MOST_TIMES),
 ]
 POINTS = 1_000_000
 SELECTIONS = ("select-thousandth", "select-second", "select-all")
+BEGINS_WITH = {"near": "points", **dict.fromkeys(SELECTIONS, "points"), "vault-keep": "vault-grid", "vault-reorder": "vault-grid"}
 
 
 def time_of(program, row, size, runs):
-    """Seconds of a row, less those that make its points."""
-    less = ("points", size) if row in ("near", *SELECTIONS) else ("none", 0)
-    [(took, _)] = measure([program], row, size, runs, less=less)
-    return took
+    """Seconds of a row, less those of the row that makes what it begins with."""
+    less = (BEGINS_WITH[row], size) if row in BEGINS_WITH else ("none", 0)
+    [it] = measure([program], row, size, runs, less=less)
+    return it.seconds
 
 
 def doubled(program, runs, lines):
@@ -64,14 +68,14 @@ def write(lines, runs):
     page.put(
         "How the libraries' cost grows",
         "`bench/growth.py --write` makes this table from the program `sop_bench`. Times are seconds of the processor, the median\n"
-        f"of {runs} runs, less that of an empty run, or of one that only makes the points. `tokens-..` cuts a text of so many\n"
+        f"of {runs} runs, less that of an empty run, or of one that only makes what the row begins with. `tokens-..` cuts a text of so many\n"
         "bytes of one kind, 50 to 2,000 times. `wildcard-name` matches `*aa..ab` of 512 bytes with a name of so many letters `a`\n"
         "and another behind them, and `wildcard-pattern` such a pattern of so many bytes with such a name of 65,536, 4 times each:\n"
         "the letters match at each byte of the name, so the work is near the product of both lengths. `wildcard-stars` matches\n"
         "`*a*a..*b` of so many bytes with a name of as many, 100,000 times. `near` finds the points near each of so many;\n"
-        "`select-..` selects of so many points, 500 times, by `0-999999:1000`, by `0-999999:2` and by `*`. The bounds that it\n"
-        "checks: twice the size takes at most 2.3 times as long, and 2.5 times for `near`; and each thousandth point takes less\n"
-        "time to select than each second one.",
+        "`select-..` selects of so many points, 500 times, by `0-999999:1000`, by `0-999999:2` and by `*`. `vault-..` are the\n"
+        "rows of the part on geometries in a vault. The bounds that it checks: twice the size takes at most 2.3 times as long,\n"
+        "and 2.5 times for `near`; and each thousandth point takes less time to select than each second one.",
         lines,
     )
 

@@ -6,12 +6,13 @@ import subprocess
 import sys
 import tempfile
 import time
+from typing import NamedTuple
 
 import page
 
 PROGRAM = f"{page.TOP}/crates/sop_bench/out/sop_bench"
-SHORTEST = 0.01  # seconds: a ratio over a shorter time says nothing
-PROCESSOR, WALL = 0, 1
+SHORTEST = 0.005  # seconds: a ratio over a shorter time says nothing
+PROCESSOR, WALL = "processor", "wall"
 
 
 def arguments():
@@ -39,8 +40,25 @@ def build_peer():
     return f"{folder}/peer"
 
 
+class Run(NamedTuple):
+    """Seconds of the processor, seconds on the wall, bytes of memory at most, and what was printed."""
+
+    processor: float
+    wall: float
+    memory: int
+    printed: bytes
+
+
+class Measured(NamedTuple):
+    """The median of the seconds less those of another row, the most bytes of memory, and all that was printed."""
+
+    seconds: float
+    memory: int
+    printed: set
+
+
 def run(program, row, size):
-    """Seconds of the processor, seconds on the wall, and what one run printed."""
+    """One run of a row."""
     with tempfile.TemporaryFile() as out:
         start = time.perf_counter()
         started = subprocess.Popen([program, row, str(size)], stdin=subprocess.DEVNULL, stdout=out)
@@ -50,16 +68,17 @@ def run(program, row, size):
         if started.returncode:
             sys.exit(f"{program} {row} {size}: status {started.returncode}")
         out.seek(0)
-        return used.ru_utime + used.ru_stime, wall, out.read()
+        return Run(used.ru_utime + used.ru_stime, wall, used.ru_maxrss * 1024, out.read())
 
 
 def measure(programs, row, size, runs, clock=PROCESSOR, less=("none", 0)):
-    """For each program the median time less that of another row's run, and what it printed; their runs take turns."""
+    """What the runs of each program tell, whose time is less that of another row's run; the programs take turns."""
     ran = [[(run(it, row, size), run(it, *less)) for it in programs] for _ in range(runs)]
     answers = []
     for pairs in zip(*ran):
-        took, empty = (statistics.median(it[clock] for it in kind) for kind in zip(*pairs))
-        answers.append((took - empty, {full[2] for full, _ in pairs}))
+        took, empty = (statistics.median(getattr(it, clock) for it in kind) for kind in zip(*pairs))
+        whole = [full for full, _ in pairs]
+        answers.append(Measured(took - empty, max(it.memory for it in whole), {it.printed for it in whole}))
     return answers
 
 

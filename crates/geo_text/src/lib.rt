@@ -2,10 +2,10 @@
 #![tactic(auto)]
 
 mod fault;
-mod listing;
 pub mod geo_maker;
 mod group_name;
 mod groups;
+mod listing;
 pub mod obj;
 mod obj_fault;
 mod obj_lines;
@@ -16,10 +16,10 @@ mod reader;
 mod reference;
 mod scan;
 mod sheet;
-mod value_text;
 mod survey;
 pub mod taker;
 mod totals;
+mod value_text;
 mod vectors;
 mod write;
 mod zero;

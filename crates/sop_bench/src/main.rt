@@ -12,6 +12,12 @@
 //! - `wildcard-name` matches a pattern with a name of SIZE bytes, `wildcard-pattern` a pattern of SIZE bytes with a name, and
 //!   `wildcard-stars` a pattern of many stars with a name, both of SIZE bytes, again and again.
 //! - `near` finds the points near each of the points, and `near-scan` does so by a look at all of them.
+//! - `vault-points` makes a geometry of SIZE points in a vault, `vault-quads` one of SIZE points and SIZE quads, `vault-grid`
+//!   a grid, whose points have places of their own besides, and `vault-grids` two of them.
+//! - `vault-append` merges two grids into a third one, 21 times; `vault-share` shares a grid and drops the copy, 1,000 times;
+//!   `vault-keep` takes every second point of one away, and `vault-reorder` puts the points of one in a random order.
+//! - `vault-set` makes SIZE points and sets the place of each, and `vault-set-again` does so 20 times. `vault-set-shared` shares
+//!   a grid and sets the place of each of the copy's points, and `vault-set-pages` prints how many pages that adds.
 //!
 //! It reads no clock: it is timed from outside. The status is 2 where the words have another form, and 1 where there is no
 //! result.
@@ -19,14 +25,17 @@
 
 mod checksum;
 mod geometry;
+mod grids;
 mod jobs;
 mod neighbors;
 mod numbers;
 mod operations;
 mod pages;
 mod patterns;
+mod reads;
 mod row;
 mod tokens;
+mod vaults;
 
 use row::Row;
 use std::process::ExitCode;

@@ -39,6 +39,14 @@ impl Numbers {
         Real::of_millionths(i64::from(self.bits()) + 1)
     }
 
+    /// A whole number below `end`.
+    pub fn index_below(&mut self, end: u32) -> u32
+        requires { 0 < end }
+        ensures { result < end }
+    {
+        self.bits() % end
+    }
+
     /// A number from 0 to before so many millionths.
     fn below(&mut self, end: u64) -> Result<Real, NumFault>
         requires { 0 < end }

@@ -6,6 +6,7 @@ use crate::operations::{Operation, checksum};
 use crate::pages::{sum_of_copies, sum_of_sets};
 use crate::patterns::{Growing, Holding, sum_of_matches, sum_of_selections};
 use crate::tokens::{Filling, sum_of_tokens};
+use crate::vaults::{Making, Telling, sum_of_making, sum_of_shared_sets};
 use std::alloc::Global;
 use std::thread::Threads;
 
@@ -32,10 +33,14 @@ pub enum Row {
     Match(Growing),
     /// The points near each point.
     FindNeighbors(Search),
+    /// A geometry in a vault.
+    Make(Making),
+    /// A geometry in a vault that is shared, and each of whose points is set then.
+    SetShared(Telling),
 }
 
 /// Each row's name.
-const ROWS: [(&str, Row); 24] = [
+const ROWS: [(&str, Row); 36] = [
     ("none", Row::Nothing),
     ("mul", Row::Numbers(Operation::Mul)),
     ("div", Row::Numbers(Operation::Div)),
@@ -60,6 +65,18 @@ const ROWS: [(&str, Row); 24] = [
     ("wildcard-stars", Row::Match(Growing::Stars)),
     ("near", Row::FindNeighbors(Search::Cells)),
     ("near-scan", Row::FindNeighbors(Search::Scan)),
+    ("vault-points", Row::Make(Making::Points)),
+    ("vault-quads", Row::Make(Making::Quads)),
+    ("vault-grid", Row::Make(Making::Grid)),
+    ("vault-grids", Row::Make(Making::Grids)),
+    ("vault-append", Row::Make(Making::Merged)),
+    ("vault-share", Row::Make(Making::Shared)),
+    ("vault-set", Row::Make(Making::Set)),
+    ("vault-set-again", Row::Make(Making::SetAgain)),
+    ("vault-set-shared", Row::SetShared(Telling::Sum)),
+    ("vault-set-pages", Row::SetShared(Telling::Pages)),
+    ("vault-keep", Row::Make(Making::Kept)),
+    ("vault-reorder", Row::Make(Making::Reordered)),
 ];
 
 impl Row {
@@ -86,6 +103,8 @@ impl Row {
             Row::Select(holding) => sum_of_selections(alloc, holding, size),
             Row::Match(growing) => sum_of_matches(alloc, growing, size),
             Row::FindNeighbors(search) => sum_of_neighbors(alloc, search, size),
+            Row::Make(making) => sum_of_making(alloc, making, size),
+            Row::SetShared(telling) => sum_of_shared_sets(alloc, telling, size),
         }
     }
 }

@@ -7,3 +7,4 @@ pub mod ElementLemmas
 pub mod WeightLemmas
 pub mod PageLemmas
 pub mod PassLemmas
+pub mod TakenLemmas

@@ -1,20 +1,84 @@
-//! What no clause says: that these calls succeed with memory at hand.
-use crate::Vault;
+//! What no clause says: that the calls succeed with memory at hand, and in which order a call looks for what it needs.
+mod calls;
+mod looks;
+mod wants;
+
+use crate::{Vault, VaultEnd};
+use calls::{
+    add_attr, add_group, add_points, add_prim, add_vertex, double, keep_without, new_key, put_back,
+    reverse, set_member, set_x, share,
+};
+use looks::x_of;
 use sop_fixed::Int;
 use sop_model::{Class, GeoView, Value};
+use sop_pages::Cell;
 use std::test::Fail;
+use wants::call_each;
 
 #[test]
-fn geometries_are_shared_and_dropped(rt: HostRuntime) -> Result<(), Fail> {
+fn a_share_keeps_what_it_had(rt: HostRuntime) -> Result<(), Fail> {
     let mut vault = Vault::new(rt.alloc());
     let first = vault.empty()?;
-    vault.add_points(first, 2)?;
+    add_points(&mut vault, first, 2)?;
     let second = vault.share(first)?;
-    assert_eq!(rt; vault.view(second).count(Class::Point), 2);
+    set_x(&mut vault, second, 0, 5)?;
+    assert_eq!(rt; x_of(&vault.view(first), 0), Some(0));
+    assert_eq!(rt; x_of(&vault.view(second), 0), Some(5));
     vault.drop_geo(first);
     vault.drop_geo(second);
     assert_eq!(rt; vault.pages(), 0);
-    let five = Value::Int(Int::of(5).expect(&rt, "in range"));
-    let _cell = vault.cell(&five)?;
+    Ok(())
+}
+
+#[test]
+fn refusals_are_told(rt: HostRuntime) -> Result<(), Fail> {
+    let mut vault = Vault::new(rt.alloc());
+    let key = vault.empty()?;
+    add_points(&mut vault, key, 2)?;
+    assert_eq!(rt; add_attr(&mut vault, key, "a"), Ok(()));
+    assert_eq!(rt; add_attr(&mut vault, key, "a"), Err(VaultEnd::Exists));
+    assert_eq!(rt; add_group(&mut vault, key, "g"), Ok(()));
+    assert_eq!(rt; add_group(&mut vault, key, "g"), Err(VaultEnd::Exists));
+    assert_eq!(rt; set_member(&mut vault, key, 1), Ok(()));
+    assert_eq!(rt; add_prim(&mut vault, key, &[7]), Err(VaultEnd::NoPoint));
+    assert_eq!(rt; add_prim(&mut vault, key, &[]), Ok(()));
+    assert_eq!(rt; add_vertex(&mut vault, key, 0, 1), Ok(()));
+    assert_eq!(rt; vault.view(key).count(Class::Vertex), 1);
+    assert_eq!(rt;
+        vault.del_attr(key, Class::Prim, "b"),
+        Err(VaultEnd::NoAttr)
+    );
+    Ok(())
+}
+
+#[test]
+fn points_go_and_turn_and_come(rt: HostRuntime) -> Result<(), Fail> {
+    let mut vault = Vault::new(rt.alloc());
+    let key = vault.empty()?;
+    add_points(&mut vault, key, 3)?;
+    set_x(&mut vault, key, 2, 5)?;
+    keep_without(rt.alloc(), &mut vault, key, 1)?;
+    reverse(rt.alloc(), &mut vault, key)?;
+    double(&mut vault, key)?;
+    put_back(&mut vault, key)?;
+    let view = vault.view(key);
+    for (point, x) in [Some(5), Some(0), Some(5), Some(0), None]
+        .iter()
+        .enumerate()
+    {
+        assert_eq!(rt; x_of(&view, point as u32), *x);
+    }
+    let five = Int::of(5).expect(&rt, "in range");
+    assert_eq!(rt; vault.cell(&Value::Int(five))?, Cell::Int(five));
+    Ok(())
+}
+
+#[test]
+fn want_of_memory_leaves_all_as_it_was(rt: HostRuntime) -> Result<(), Fail> {
+    let mut vault = Vault::new(rt.alloc());
+    let first = new_key(&mut vault)?;
+    call_each(&rt, rt.alloc(), &mut vault, first, first, "a")?;
+    let second = share(&mut vault, first)?;
+    call_each(&rt, rt.alloc(), &mut vault, second, first, "b")?;
     Ok(())
 }

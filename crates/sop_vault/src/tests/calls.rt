@@ -1,0 +1,248 @@
+//! Calls of a vault, whose conditions are tested as they run. What is live stays live in each.
+ghost use Rattle.std.specs.Prelude.{◌≡◌, Some, IfOk, IsTrue, IsPermutation};
+ghost use Rattle.std.specs.List.{range_with_len};
+ghost use Rattle.sop_model.specs.declared.class.Class.TheVariants.{Prim};
+ghost use Rattle.sop_model.specs.declared.value.Kind.TheVariants.{Str};
+ghost use Rattle.sop_model.specs.Names.{is_name};
+ghost use Rattle.sop_model.specs.Geometry.{IsReadable};
+ghost use Rattle.sop_model.specs.Rows.{kind_at, HasHead, HasElement};
+ghost use Rattle.sop_model.specs.Sweep.{AreMarksOf};
+ghost use Rattle.sop_vault.specs.Keyed.{IsLive};
+ghost use Rattle.sop_vault.specs.Living.{StayLive};
+
+use super::looks::has_place;
+use crate::{GeoKey, Vault, VaultEnd};
+use sop_fixed::{Real, Vec3};
+use sop_model::{Class, GeoView, Kind, Value};
+use sop_outside::Text;
+use sop_rows::Marks;
+use sop_sheets::GeoRef;
+use std::alloc::{AllocError, Global};
+
+/// A key of the empty geometry.
+pub fn new_key(vault: &mut Vault<'_>) -> Result<GeoKey, VaultEnd>
+    ensures live { IfOk result (λ key. IsLive vault.new.geos key) }
+    ensures stay { StayLive vault.old.geos vault.new.geos }
+{
+    let key = vault.empty()?;
+    Ok(key)
+}
+
+/// Another key of a geometry.
+pub fn share(vault: &mut Vault<'_>, key: GeoKey) -> Result<GeoKey, VaultEnd>
+    requires { IsLive vault.old.geos key }
+    ensures live { IfOk result (λ new. IsLive vault.new.geos new) }
+    ensures stay { StayLive vault.old.geos vault.new.geos }
+{
+    let new = vault.share(key)?;
+    Ok(new)
+}
+
+pub fn add_points(vault: &mut Vault<'_>, key: GeoKey, more: u32) -> Result<(), VaultEnd>
+    requires { IsLive vault.old.geos key }
+    ensures { StayLive vault.old.geos vault.new.geos }
+{
+    vault.add_points(key, more)
+}
+
+/// Adds an attribute of texts to the primitives.
+pub fn add_attr(vault: &mut Vault<'_>, key: GeoKey, name: &str) -> Result<(), VaultEnd>
+    requires live { IsLive vault.old.geos key }
+    requires name { IsTrue (is_name name.now) }
+    ensures { StayLive vault.old.geos vault.new.geos }
+{
+    vault.add_attr(key, Class::Prim, name, Kind::Str)?;
+    Ok(())
+}
+
+/// Takes an attribute of the primitives away.
+pub fn del_attr(vault: &mut Vault<'_>, key: GeoKey, name: &str) -> Result<(), VaultEnd>
+    requires { IsLive vault.old.geos key }
+    ensures { StayLive vault.old.geos vault.new.geos }
+{
+    if vault.view(key).find(Class::Prim, name).is_none() {
+        return Err(VaultEnd::NoAttr);
+    }
+    vault.del_attr(key, Class::Prim, name)
+}
+
+/// Adds a group of points.
+pub fn add_group(vault: &mut Vault<'_>, key: GeoKey, name: &str) -> Result<(), VaultEnd>
+    requires live { IsLive vault.old.geos key }
+    requires name { IsTrue (is_name name.now) }
+    ensures { StayLive vault.old.geos vault.new.geos }
+{
+    vault.add_group(key, Class::Point, name)?;
+    Ok(())
+}
+
+/// Puts a point into the first group of points.
+pub fn set_member(vault: &mut Vault<'_>, key: GeoKey, point: u32) -> Result<(), VaultEnd>
+    requires { IsLive vault.old.geos key }
+    ensures { StayLive vault.old.geos vault.new.geos }
+{
+    if vault.view(key).groups(Class::Point) == 0 || point >= vault.view(key).count(Class::Point) {
+        return Err(VaultEnd::NoPoint);
+    }
+    vault.set_member(key, Class::Point, 0, point, true)
+}
+
+/// Moves a point along x.
+pub fn set_x(
+    vault: &mut Vault<'_>,
+    key: GeoKey,
+    point: u32,
+    millionths: i64,
+) -> Result<(), VaultEnd>
+    requires { IsLive vault.old.geos key }
+    ensures { StayLive vault.old.geos vault.new.geos }
+{
+    let (Ok(x), Ok(zero)) = (Real::of_millionths(millionths), Real::of_millionths(0)) else {
+        return Err(VaultEnd::Limit);
+    };
+    if !has_place(&vault.view(key), point) {
+        return Err(VaultEnd::NoPoint);
+    }
+    let place = Vec3 {
+        x,
+        y: zero,
+        z: zero,
+    };
+    vault.set(key, Class::Point, 0, point, &Value::Vector(place))
+}
+
+pub fn add_prim(vault: &mut Vault<'_>, key: GeoKey, points: &[u32]) -> Result<(), VaultEnd>
+    requires { IsLive vault.old.geos key }
+    ensures { StayLive vault.old.geos vault.new.geos }
+{
+    vault.add_prim(key, true, points)
+}
+
+pub fn add_vertex(vault: &mut Vault<'_>, key: GeoKey, prim: u32, point: u32) -> Result<(), VaultEnd>
+    requires { IsLive vault.old.geos key }
+    ensures { StayLive vault.old.geos vault.new.geos }
+{
+    vault.add_vertices(key, &[(prim, point)])
+}
+
+/// Takes a point away.
+pub fn keep_without(
+    alloc: Global,
+    vault: &mut Vault<'_>,
+    key: GeoKey,
+    point: u32,
+) -> Result<(), VaultEnd>
+    requires { IsLive vault.old.geos key }
+    ensures { StayLive vault.old.geos vault.new.geos }
+{
+    let marks = mark_of(alloc, &vault.view(key), point)?;
+    vault.keep(key, &marks)
+}
+
+/// A mark on a point, where there is such a point.
+fn mark_of(alloc: Global, view: &GeoRef<'_>, point: u32) -> Result<Marks, AllocError>
+    requires { IsReadable view.now }
+    ensures { IfOk result (λ marks. AreMarksOf view.now marks) }
+{
+    let mut marks = Marks::for_view(alloc, view)?;
+    if point < view.count(Class::Point) {
+        marks.mark_point(point);
+    }
+    Ok(marks)
+}
+
+/// Puts the points in their order from the last to the first.
+pub fn reverse(alloc: Global, vault: &mut Vault<'_>, key: GeoKey) -> Result<(), VaultEnd>
+    requires { IsLive vault.old.geos key }
+    ensures { StayLive vault.old.geos vault.new.geos }
+{
+    let order = backwards(alloc, vault.view(key).count(Class::Point))?;
+    vault.reorder(key, Class::Point, &order)
+}
+
+fn backwards(alloc: Global, count: u32) -> Result<Vec<u32>, AllocError>
+    ensures { IfOk result (λ order. IsPermutation (range_with_len 0 count) order.items) }
+{
+    let mut numbers = numbers_below(alloc, count)?;
+    numbers.reverse();
+    Ok(numbers)
+}
+
+fn numbers_below(alloc: Global, count: u32) -> Result<Vec<u32>, AllocError>
+    ensures { IfOk result (λ numbers. numbers.items ≡ range_with_len 0 count) }
+{
+    (0..count).collect(alloc)
+}
+
+/// Puts a geometry behind itself.
+pub fn double(vault: &mut Vault<'_>, key: GeoKey) -> Result<(), VaultEnd>
+    requires { IsLive vault.old.geos key }
+    ensures { StayLive vault.old.geos vault.new.geos }
+{
+    vault.append(key, key)
+}
+
+/// Takes the places of points out as pages, and puts these in again.
+pub fn put_back(vault: &mut Vault<'_>, key: GeoKey) -> Result<(), VaultEnd>
+    requires { IsLive vault.old.geos key }
+    ensures { StayLive vault.old.geos vault.new.geos }
+{
+    if !has_place(&vault.view(key), 0) {
+        return Err(VaultEnd::NoPoint);
+    }
+    let pages = vault.take_loose(key, Class::Point, 0)?;
+    match vault.adopt(key, Class::Point, 0, pages) {
+        Ok(()) => Ok(()),
+        Err((_, AllocError)) => Err(VaultEnd::Memory),
+    }
+}
+
+/// The cell of a text.
+pub fn cell_of(vault: &mut Vault<'_>, text: Text) -> Result<(), VaultEnd>
+    ensures { StayLive vault.old.geos vault.new.geos }
+{
+    vault.cell(&Value::Str(text))?;
+    Ok(())
+}
+
+/// Gives the first primitive a text under its first attribute.
+pub fn set_text(alloc: Global, vault: &mut Vault<'_>, key: GeoKey) -> Result<(), VaultEnd>
+    requires { IsLive vault.old.geos key }
+    ensures { StayLive vault.old.geos vault.new.geos }
+{
+    let text = Text::from_str(alloc, "text")?;
+    if !has_text(&vault.view(key)) {
+        return Err(VaultEnd::NoAttr);
+    }
+    vault.set(key, Class::Prim, 0, 0, &Value::Str(text))
+}
+
+/// Whether the first primitive has a text.
+fn has_text(view: &GeoRef<'_>) -> bool
+    requires { IsReadable view.now }
+    ensures { IsTrue result → HasHead view.now Prim 0 × HasElement view.now Prim 0 × (kind_at view.now Prim 0 ≡ Some Str) }
+{
+    if view.heads(Class::Prim) == 0 || view.count(Class::Prim) == 0 {
+        return false;
+    }
+    view.head_kind(Class::Prim, 0) == Kind::Str
+}
+
+/// A new key of the empty geometry, which is dropped again.
+pub fn add_and_drop(vault: &mut Vault<'_>) -> Result<(), VaultEnd>
+    ensures { StayLive vault.old.geos vault.new.geos }
+{
+    let key = vault.empty()?;
+    vault.drop_geo(key);
+    Ok(())
+}
+
+/// A new key of a geometry, which is dropped again.
+pub fn share_and_drop(vault: &mut Vault<'_>, key: GeoKey) -> Result<(), VaultEnd>
+    requires { IsLive vault.old.geos key }
+    ensures { StayLive vault.old.geos vault.new.geos }
+{
+    let copy = vault.share(key)?;
+    vault.drop_geo(copy);
+    Ok(())
+}

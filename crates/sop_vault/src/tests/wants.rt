@@ -1,0 +1,116 @@
+//! Each call of a vault that may take memory, and what stands where it gets none.
+ghost use Rattle.std.specs.Prelude.{IsTrue};
+ghost use Rattle.sop_model.specs.Names.{is_name};
+ghost use Rattle.sop_vault.specs.Keyed.{IsLive};
+ghost use Rattle.sop_vault.specs.Living.{StayLive};
+
+use super::calls::{
+    add_and_drop, add_attr, add_group, add_points, add_prim, add_vertex, cell_of, del_attr, double,
+    keep_without, put_back, reverse, set_member, set_text, set_x, share_and_drop,
+};
+use super::looks::look_at;
+use crate::{GeoKey, Vault, VaultEnd};
+use sop_outside::Text;
+use std::alloc::Global;
+use std::process::Abort;
+
+/// A call.
+#[derive(Clone, Copy)]
+enum Call {
+    Empty,
+    Cell,
+    AddPoints,
+    AddAttr,
+    AddGroup,
+    AddPrim,
+    AddVertices,
+    Set,
+    SetText,
+    SetMember,
+    Share,
+    Keep,
+    Reorder,
+    Append,
+    TakeAndAdopt,
+    DelAttr,
+}
+
+/// The calls in an order in which each finds what it needs.
+const CALLS: [Call; 16] = [
+    Call::Empty,
+    Call::Cell,
+    Call::AddPoints,
+    Call::AddAttr,
+    Call::AddGroup,
+    Call::AddPrim,
+    Call::AddVertices,
+    Call::Set,
+    Call::SetText,
+    Call::SetMember,
+    Call::Share,
+    Call::Keep,
+    Call::Reorder,
+    Call::Append,
+    Call::TakeAndAdopt,
+    Call::DelAttr,
+];
+
+/// Makes each call on the geometry at `key`. One that is refused must leave that geometry, the one at `other` and the number of pages
+/// as they were; the others aren't made then.
+pub fn call_each(
+    rt: &impl Abort,
+    alloc: Global,
+    vault: &mut Vault<'_>,
+    key: GeoKey,
+    other: GeoKey,
+    name: &str,
+) -> Result<(), VaultEnd>
+    requires key { IsLive vault.old.geos key }
+    requires other { IsLive vault.old.geos other }
+    requires name { IsTrue (is_name name.now) }
+    ensures { StayLive vault.old.geos vault.new.geos }
+{
+    for call in CALLS {
+        let before = (look_at(vault, key), look_at(vault, other));
+        let made = call.make(alloc, vault, key, name);
+        if made.is_err() {
+            assert_eq!(rt; look_at(vault, key), before.0);
+            assert_eq!(rt; look_at(vault, other), before.1);
+            return made;
+        }
+    }
+    Ok(())
+}
+
+impl Call {
+    fn make(
+        self,
+        alloc: Global,
+        vault: &mut Vault<'_>,
+        key: GeoKey,
+        name: &str,
+    ) -> Result<(), VaultEnd>
+        requires live { IsLive vault.old.geos key }
+        requires name { IsTrue (is_name name.now) }
+        ensures { StayLive vault.old.geos vault.new.geos }
+    {
+        match self {
+            Call::Empty => add_and_drop(vault),
+            Call::Cell => cell_of(vault, Text::from_str(alloc, name)?),
+            Call::AddPoints => add_points(vault, key, 3),
+            Call::AddAttr => add_attr(vault, key, name),
+            Call::AddGroup => add_group(vault, key, name),
+            Call::AddPrim => add_prim(vault, key, &[0, 1]),
+            Call::AddVertices => add_vertex(vault, key, 0, 2),
+            Call::Set => set_x(vault, key, 1, 5),
+            Call::SetText => set_text(alloc, vault, key),
+            Call::SetMember => set_member(vault, key, 1),
+            Call::Share => share_and_drop(vault, key),
+            Call::Keep => keep_without(alloc, vault, key, 1),
+            Call::Reorder => reverse(alloc, vault, key),
+            Call::Append => double(vault, key),
+            Call::TakeAndAdopt => put_back(vault, key),
+            Call::DelAttr => del_attr(vault, key, name),
+        }
+    }
+}
