@@ -17,11 +17,13 @@ import tempfile
 
 import run
 
-CRATE = f"{run.TOP}/crates/sop_pages"
-TEST = "tests::a_shared_page_is_copied_once"
 WELL = 0, b"\ntest result: ok\n", b""
-WANTING = 101, b"", b"error: AllocError\nthe test failed: its result gives status 1\n"
 MOST = 1000
+
+
+def wanting(error):
+    """How a test ends whose result is this error."""
+    return 101, b"", f"error: {error}\nthe test failed: its result gives status 1\n".encode("ascii")
 
 
 def is_wanted(answer, wanted, what):
@@ -42,19 +44,21 @@ def fail_in_turn(words, shim, ending, wanted):
     return [*ended, False]
 
 
-def main():
+def main(crate, test, error):
+    """Runs a test of a crate, which must end with this error where a request fails, and gives the status."""
     parser = argparse.ArgumentParser()
     parser.add_argument("--tests")
     tests = parser.parse_args().tests
     if not tests:
-        tests = f"{CRATE}/out/sop_pages_tests"
-        subprocess.run(["rt", "test"], cwd=CRATE, check=True, stdout=subprocess.DEVNULL)
-    words = [os.path.abspath(tests), TEST]
+        folder = f"{run.TOP}/crates/{crate}"
+        tests = f"{folder}/out/{crate}_tests"
+        subprocess.run(["rt", "test"], cwd=folder, check=True, stdout=subprocess.DEVNULL)
+    words = [os.path.abspath(tests), test]
     with tempfile.TemporaryDirectory() as folder:
         shim = run.make_shim(folder)
         *answer, _ = run.cook(words, shim, "0")
-        alone = fail_in_turn(words, shim, "", WANTING)
-        on = fail_in_turn(words, shim, "+", WANTING)
+        alone = fail_in_turn(words, shim, "", wanting(error))
+        on = fail_in_turn(words, shim, "+", wanting(error))
     print(f"{len(alone)} requests failed alone, and {len(on)} with all later ones")
     ended = [is_wanted(answer, WELL, "no request"), *alone, *on]
     if not alone or len(alone) != len(on):
@@ -66,4 +70,4 @@ def main():
 
 
 if __name__ == "__main__":
-    sys.exit(main())
+    sys.exit(main("sop_pages", "tests::a_shared_page_is_copied_once", "AllocError"))

@@ -11,7 +11,7 @@ use Rattle.sop_model.specs.declared.value.Kind.TheVariants as kind
 use Rattle.sop_model.specs.declared.value.Value.{Value}
 use Rattle.sop_model.specs.declared.value.Value.TheVariants as value
 use Rattle.sop_model.specs.Values.{kind_of, is_value_within}
-use Rattle.sop_model.specs.Geometry.{count_of, position_head, BeginsWithPosition, IsReadable, IsRowOf}
+use Rattle.sop_model.specs.Geometry.{count_of, BeginsWithPosition, IsReadable, IsRowOf}
 use Rattle.sop_model.specs.Rows.{column_of, column_cleared, default_at, HasHead, IsOfHead}
 use Rattle.sop_rows.proofs.RowSound.{length-rows_held}
 use Rattle.sop_pages.specs.declared.cell.Cell.{Cell}
@@ -51,8 +51,8 @@ head_there (h ∷ heads) begins = omega arith
 
 -- the places of points were taken out
 module _ (old new : VaultMap) (key : ℕ) (pages : List (List Cell)) (g : Geo) (was : at old.geos key ≡ Some g) (readable : IsReadable g)
-  (values : IfSome (at old.geos key) (λ g. map (value_of old.names) (joined pages) ≡ column_of g Point 0)) (numbered : All (IsNumbered old.names) (joined pages))
-  (changed : IfSome (at old.geos key) (λ g. Changed old new key (Some (column_cleared g Point 0)))) where
+    (values : IfSome (at old.geos key) (λ g. map (value_of old.names) (joined pages) ≡ column_of g Point 0)) (numbered : All (IsNumbered old.names) (joined pages))
+    (changed : IfSome (at old.geos key) (λ g. Changed old new key (Some (column_cleared g Point 0)))) where
   abbrev IsVector : Value → Type 0
   IsVector v = kind_of v ≡ kind.Vector
 

@@ -171,7 +171,11 @@ fn backwards(alloc: Global, count: u32) -> Result<Vec<u32>, AllocError>
 fn numbers_below(alloc: Global, count: u32) -> Result<Vec<u32>, AllocError>
     ensures { IfOk result (λ numbers. numbers.items ≡ range_with_len 0 count) }
 {
-    (0..count).collect(alloc)
+    let mut numbers = Vec::with_capacity(alloc, count as usize)?;
+    for number in 0..count {
+        numbers.push(number)?;
+    }
+    Ok(numbers)
 }
 
 /// Puts a geometry behind itself.
