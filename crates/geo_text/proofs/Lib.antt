@@ -11,6 +11,7 @@ pub mod ObjWhole
 pub mod ObjWriter
 pub mod ObjSound
 pub mod ObjGood
+pub mod ObjAnswer
 pub mod ObjVectors
 pub mod ObjNames
 pub mod ObjReferencing

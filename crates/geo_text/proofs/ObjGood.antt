@@ -1,9 +1,8 @@
 -- The geometry of a text that isn't refused is well made and within every limit.
-use Rattle.std.proofs.Common.{◌≡◌, ℕ, zero, suc, ◌+◌, ◌*◌, ◌<◌, ◌≤◌, List, [], ◌∷◌, ◌++◌, length, map, take, refl, sym, ap, ◌∙◌, subst, arith, Result, Ok, Err, Option, Some, None, Bool, true, false, not, inl, inr, ◌⊎◌, length-append}
-use Rattle.std.specs.Prelude.{◌&&◌, ◌||◌, All, nat_lt, filter_map, if◌then◌else◌, sum_by, codes, unwrap_or}
-use Rattle.std.specs.List.{list_all, flat_map}
+use Rattle.std.proofs.Common.{◌≡◌, ℕ, ◌*◌, ◌<◌, ◌≤◌, List, [], ◌∷◌, ◌++◌, length, map, refl, ◌∙◌, subst, arith, Bool, true, false, inl, inr, length-append}
+use Rattle.std.specs.Prelude.{All, sum_by, codes, unwrap_or}
+use Rattle.std.specs.List.{flat_map}
 use Rattle.std.proofs.lemmas.Bool.{cases_Bool, and_parts, and_from}
-use Rattle.std.proofs.lemmas.Bool.Decides.{nat_tests}
 use Rattle.std.proofs.lemmas.List.{length-map, length-take}
 use Rattle.std.proofs.lemmas.List.Elements.{All-nil, All-cons, All-head, All-tail, All-append, All-map, All-weaker}
 use Rattle.std.proofs.lemmas.List.Sums.{sum_by-cons}
@@ -12,16 +11,15 @@ use Rattle.sop_model.specs.declared.class.Class.{Class}
 use Rattle.sop_model.specs.declared.class.Class.TheVariants.{Detail, Prim, Point, Vertex}
 use Rattle.sop_model.specs.declared.geo.Geo.{Geo}
 use Rattle.sop_model.specs.declared.geo.Row.{Row}
-use Rattle.sop_model.specs.declared.geo.HeadSet.{HeadSet}
 use Rattle.sop_model.specs.declared.geo.Corner.{Corner}
 use Rattle.sop_model.specs.declared.geo.Primitive.{Primitive}
 use Rattle.sop_model.specs.declared.value.Value.TheVariants as value
 use Rattle.sop_model.specs.Values.{kind_of, zero_vector}
-use Rattle.sop_model.specs.Names.{is_name, are_distinct}
+use Rattle.sop_model.specs.Names.{is_name}
 use Rattle.sop_model.specs.Limits.{most_points, most_prims, most_vertices, most_heads, most_groups, most_weight}
 use Rattle.sop_model.specs.Vertices.{size_of, corners_of}
 use Rattle.sop_model.specs.Merge.{first_names}
-use Rattle.sop_model.specs.Geometry.{empty_row, no_heads, position_head, heads_of, rows_of, row_weight, geo_weight, IsNamed, IsRowOf, IsSound, IsGood, IsWithin, Fits}
+use Rattle.sop_model.specs.Geometry.{empty_row, no_heads, position_head, heads_of, rows_of, row_weight, geo_weight, IsNamed, IsRowOf, IsGood, Fits}
 use Rattle.sop_model.proofs.LimitsLemmas.{IsWithin-from, Fits-from}
 use Rattle.geo_text.specs.declared.taker.Attributes.{Attributes}
 use Rattle.geo_text.specs.declared.reference.Named.{Named}
