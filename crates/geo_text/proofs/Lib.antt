@@ -10,6 +10,8 @@ pub mod ObjGeometry
 pub mod ObjWhole
 pub mod ObjWriter
 pub mod ObjSound
+pub mod ObjGood
+pub mod ObjAnswer
 pub mod ObjVectors
 pub mod ObjNames
 pub mod ObjReferencing

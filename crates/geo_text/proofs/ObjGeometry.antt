@@ -110,7 +110,7 @@ module _ (has : Attributes) (textures normals : List Vec3) where
   into_distinct names [] h = h
   into_distinct names (x ∷ more) h = into_distinct (added x names) more (added_distinct x names h)
 
-  used_distinct : (shapes : List Shaped) → are_distinct (group_names shapes) ≡ true
+  pub used_distinct : (shapes : List Shaped) → are_distinct (group_names shapes) ≡ true
   used_distinct shapes = subst (λ n. are_distinct n ≡ true) (first_into [] (flat_map (λ s. s.groups) shapes)) (into_distinct [] (flat_map (λ s. s.groups) shapes) refl)
 
   lacks_used : (x : List ℕ) (shapes : List Shaped) → lacks x shapes ≡ is_among (flat_map (λ s. s.groups) shapes) x

@@ -1,8 +1,8 @@
 -- What the pieces of a text that isn't refused keep: references name elements, names of groups are names, and primitives have corners.
-use Rattle.std.proofs.Common.{◌≡◌, ℕ, zero, suc, ◌+◌, ◌-◌, ◌<◌, ◌≤◌, List, [], ◌∷◌, ◌++◌, length, map, take, refl, sym, ap, ◌∙◌, subst, arith, Result, Ok, Err, Option, Some, None, Bool, true, false, not, inl, inr, ◌⊎◌}
-use Rattle.std.specs.Prelude.{◌&&◌, ◌||◌, All, nat_le, nat_lt, filter, filter_map, if◌then◌else◌, sum_by}
-use Rattle.std.specs.List.{list_all, slice_split, onto_first}
-use Rattle.std.specs.Char.{is_ascii_digit, is_ascii_alphabetic}
+use Rattle.std.proofs.Common.{◌≡◌, ℕ, zero, suc, ◌+◌, ◌-◌, ◌<◌, ◌≤◌, List, [], ◌∷◌, length, map, take, refl, sym, ap, ◌∙◌, subst, arith, Ok, Option, Some, None, Bool, true, false, inl, inr}
+use Rattle.std.specs.Prelude.{◌&&◌, All, nat_le, nat_lt, filter, filter_map, sum_by}
+use Rattle.std.specs.List.{list_all, slice_split}
+use Rattle.std.specs.Char.{is_ascii_digit}
 use Rattle.std.proofs.lemmas.Bool.{cases_Bool, and_parts, and_from}
 use Rattle.std.proofs.lemmas.Bool.Decides.{nat_tests}
 use Rattle.std.proofs.lemmas.List.{length-map, length-take}
@@ -15,9 +15,8 @@ use Rattle.geo_text.specs.declared.reference.Named.{Named}
 use Rattle.geo_text.specs.declared.reader.Keyword.{Keyword}
 use Rattle.geo_text.specs.declared.reader.Keyword.TheVariants as key
 use Rattle.geo_text.specs.ObjLines.{joints_in, is_filled, is_blank, is_comment, before_comment, words_of}
-use Rattle.geo_text.specs.ObjStatements.{Part, Absent, Ahead, Back, Wrong, Reference, Statement, reference_of, mended, mended_byte, with_start, shape_in, statement_of, place_in, texture_in, normal_in}
-use Rattle.geo_text.specs.ObjMeaning.{Refusal, Piece, PointPiece, TexturePiece, NormalPiece, ShapePiece, GroupsPiece, NoPiece, Said, within, element_of, named_or_index, map_ok, and_then, needed, optional, named_by, each_of, put_first, piece_of, pieces_of, counted_in, counts_of, references_of, is_shape, place_of, Shaped, shapes_under}
-use Rattle.geo_text.specs.ObjReferences.{AreSoFar}
+use Rattle.geo_text.specs.ObjStatements.{Part, Absent, Ahead, Back, Wrong, Reference, Statement, reference_of, mended, mended_byte, shape_in, statement_of, place_in, texture_in, normal_in}
+use Rattle.geo_text.specs.ObjMeaning.{Piece, PointPiece, TexturePiece, NormalPiece, ShapePiece, GroupsPiece, NoPiece, Said, within, element_of, named_or_index, needed, optional, named_by, each_of, piece_of, pieces_of, counted_in, counts_of, references_of, is_shape, place_of, Shaped, shapes_under}
 use Rattle.geo_text.specs.ObjRun.{statement_as}
 use Rattle.geo_text.specs.ObjSurvey.{key_of}
 use Rattle.geo_text.specs.ObjLoop.{counts_sum}

@@ -1,6 +1,7 @@
 use Rattle.std.proofs.Common.{subst}
 use Rattle.std.proofs.lemmas.Result.{on_ok_weaker, IfErr-weaker}
 use Rattle.geo_text.specs.ObjSurvey.{IsPast}
+use Rattle.geo_text.proofs.ObjAnswer.{meaning_good}
 use Rattle.geo_text.proofs.ObjWhole.{seen_of, survey_told, surveyed, counts_said, text_taken, text_told}
 use Rattle.geo_text.proofs.obj.take_obj.Goals as goal
 
@@ -31,3 +32,7 @@ returns-clause-err g c =
     (λ f h. text_told f c.args.bytes.now c.without_mark-text.result.now t.result (g.T.ObjTaker.attributes c.begin.new.self) (g.T.ObjTaker.taken c.begin.new.self)
     c.without_mark-text.ensures s c.in_ok-begin.ensures.attributes h)
     c.read_lines.ensures.err
+
+pub returns-clause-good : goal.returns-clause-good
+returns-clause-good g c =
+    on_ok_weaker c.read_lines.result (meaning_good c.args.bytes.now (g.T.ObjTaker.taken c.read_lines.new.taker)) (returns-clause-ok g c)
