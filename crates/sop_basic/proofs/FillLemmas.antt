@@ -1,6 +1,6 @@
 -- The values of an attribute set one element after the other: one more, the last, and a stop.
-use Rattle.std.proofs.Common.{◌≡◌, ◌≢◌, ℕ, suc, ◌+◌, ◌<◌, ◌≤◌, List, [], ◌∷◌, ◌++◌, length, drop, get_or, refl, sym, ap, ◌∙◌, subst, arith, append_assoc, append-nil, length-append, length-drop}
-use Rattle.std.specs.Prelude.{Option, Some, Ok, Err, option_map, slice_get}
+use Rattle.std.proofs.Common.{◌≡◌, ℕ, suc, ◌+◌, ◌<◌, ◌≤◌, List, [], ◌∷◌, ◌++◌, length, drop, get_or, refl, sym, ap, ◌∙◌, subst, arith, append_assoc, length-append, length-drop}
+use Rattle.std.specs.Prelude.{Some, Ok, Err, option_map, slice_get}
 use Rattle.sop_model.specs.declared.class.Class.{Class}
 use Rattle.sop_model.specs.declared.geo.Geo.{Geo}
 use Rattle.sop_model.specs.declared.geo.Row.{Row}
@@ -9,7 +9,7 @@ use Rattle.sop_model.specs.declared.fault.CookStop.{CookStop}
 use Rattle.sop_model.specs.declared.fault.CookStop.TheVariants as stop
 use Rattle.sop_model.specs.declared.value.Kind.{Kind}
 use Rattle.sop_model.specs.declared.value.Value.{Value}
-use Rattle.sop_model.specs.Geometry.{empty_row, heads_of, rows_of, count_of}
+use Rattle.sop_model.specs.Geometry.{empty_row, rows_of, count_of}
 use Rattle.sop_model.specs.Rows.{with_value, changed_at, value_set, with_rows, kind_at}
 use Rattle.sop_rows.proofs.ClassRows.{rows_of-with_rows, heads_of-with_rows}
 use Rattle.sop_columns.proofs.NameLemmas.{grows_none}

@@ -1,6 +1,6 @@
 -- An attribute that is found, added behind the others, or made anew.
-use Rattle.std.proofs.Common.{◌≡◌, ◌≢◌, ℕ, zero, suc, ◌+◌, ◌<◌, ◌≤◌, Bool, true, false, cond, not, ◌||◌, ltb-true, lt-ltb, List, [], ◌∷◌, ◌++◌, length, map, get_or, remove, refl, sym, ap, ◌∙◌, subst, arith, inl, inr, length-append}
-use Rattle.std.specs.Prelude.{Option, Some, None, Result, Ok, Err, IfSome, IsTrue, position, option_map, slice_get, nat_lt, if◌then◌else◌}
+use Rattle.std.proofs.Common.{◌≡◌, ℕ, suc, ◌+◌, ◌≤◌, Bool, true, false, cond, not, ltb-true, lt-ltb, List, [], ◌∷◌, ◌++◌, length, map, get_or, remove, refl, sym, ap, ◌∙◌, arith, inl, inr, length-append}
+use Rattle.std.specs.Prelude.{Some, None, Result, Ok, Err, position, option_map, slice_get, nat_lt}
 use Rattle.std.specs.List.{list_any, position_or_len}
 use Rattle.std.specs.Str.{bytes_eq}
 use Rattle.std.proofs.lemmas.Bool.{cases_Bool, false≢true, and_parts, or_parts, or_from}
@@ -16,7 +16,7 @@ use Rattle.sop_model.specs.declared.fault.CookStop.{CookStop}
 use Rattle.sop_model.specs.declared.fault.CookStop.TheVariants as stop
 use Rattle.sop_model.specs.Names.{are_distinct}
 use Rattle.sop_model.specs.Geometry.{heads_of}
-use Rattle.sop_model.specs.Rows.{kind_at, head_named, attr_added, attr_deleted, with_last_head, without_head}
+use Rattle.sop_model.specs.Rows.{head_named, attr_added, attr_deleted}
 use Rattle.sop_rows.proofs.RowOps.{heads_of-attr_added, heads_of-attr_deleted}
 use Rattle.sop_rows.proofs.FirstLemmas.{bytes_same, same_bytes}
 use Rattle.sop_vault.specs.Vaults.{VaultMap, Changed}
@@ -53,8 +53,8 @@ module _ {X : Type 0} (p : X → Bool) where
   position_push xs y none passes =
       let long = length-append xs (y ∷ []) in
       let first : position_or_len p (xs ++ y ∷ []) ≡ length xs = position_or_len_is p (xs ++ y ∷ []) (length xs) y (omega (arith, long))
-          (λ k lt. ap p (get_or_append_left xs (y ∷ []) y k lt) ∙ fails_before_first p xs k y (let f = far xs none in omega (arith, f, lt)))
-          (λ lt. ap p (behind xs y y) ∙ passes) in
+      (λ k lt. ap p (get_or_append_left xs (y ∷ []) y k lt) ∙ fails_before_first p xs k y (let f = far xs none in omega (arith, f, lt)))
+      (λ lt. ap p (behind xs y y) ∙ passes) in
       let in_it : nat_lt (length xs) (length (xs ++ y ∷ [])) ≡ true = lt-ltb (length xs) (length (xs ++ y ∷ [])) (omega (arith, long)) in
       ap (λ n. cond (nat_lt n (length (xs ++ y ∷ []))) (Some n) None) first ∙ ap (λ (b : Bool). cond b (Some (length xs)) None) in_it
 

@@ -12,3 +12,6 @@ pub mod WeightLemmas
 pub mod RowsLemmas
 pub mod FillLemmas
 pub mod HeadLemmas
+pub mod ColumnLemmas
+pub mod EnumerateLemmas
+pub mod CreateLemmas

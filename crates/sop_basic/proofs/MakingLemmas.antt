@@ -4,7 +4,6 @@ use Rattle.std.specs.Prelude.{Option, Some, None, Result, Ok, Err, IfSome, IsSom
 use Rattle.std.proofs.lemmas.Result.{err_from_is_err_and}
 use Rattle.std.proofs.lemmas.Bool.{false≢true}
 use Rattle.sop_model.specs.declared.geo.Geo.{Geo}
-use Rattle.sop_model.specs.declared.fault.Fault.{Fault}
 use Rattle.sop_model.specs.declared.fault.Fault.TheVariants as fault
 use Rattle.sop_model.specs.Limits.{most_weight}
 use Rattle.sop_model.specs.Geometry.{geo_weight, fits, IsWithin}
@@ -154,3 +153,11 @@ prepares_of a b key outcome (Err stop.Memory) touched = touched
 pub judged_err : (opened now : VaultMap) (key : ℕ) (outcome : Outcome) (s : CookStop) → Prepares opened now key outcome (Err s) → Makes opened now key (limited outcome) (Err s)
 judged_err opened now key outcome (stop.Fault f) ended = ended
 judged_err opened now key outcome stop.Memory ended = ended
+
+pub prepares_live : (a b : VaultMap) (key : ℕ) (outcome : Outcome) (r : Result (Unit {0}) CookStop) → Prepares a b key outcome r → IsLive b.geos key
+prepares_live a b key outcome (Ok done) (g, is, ch) = live_of b key g ch.geos.here
+prepares_live a b key outcome (Err (stop.Fault f)) (is, touched) = touched.live
+prepares_live a b key outcome (Err stop.Memory) touched = touched.live
+
+pub kept_same : (v : VaultMap) → IsKept v v
+kept_same v = record { geos = λ k. refl; held = λ k live. refl; names = grows_none v.names }

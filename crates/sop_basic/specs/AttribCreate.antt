@@ -49,22 +49,26 @@ value_in wanted (byte ∷ text) = value_said wanted (byte ∷ text)
 abbrev pub may_have : Class → List ℕ → Kind → Bool
 may_have class name wanted = is_name name && (not (is_position class name) || is_kind kind.Vector (Some wanted))
 
+-- the value that the parameters tell, and None where one of them doesn't fit
+abbrev pub value_told : List (List ℕ) → Option Value
+value_told parms =
+    let wanted = kind_in (parm_at parms 2) in
+    if may_have (class_in (parm_at parms 0)) (parm_at parms 1) wanted then value_in wanted (parm_at parms 3) else None
+
 -- the value where an element is selected
 abbrev pub set_where : Value → List Bool → List Value → List Value
 set_where v [] values = values
 set_where v (on ∷ flags) [] = []
 set_where v (on ∷ flags) (old ∷ values) = (if on then v else old) ∷ set_where v flags values
 
+-- the geometry with a value under a name at the selected elements
+abbrev pub set_under : Class → List ℕ → Value → Geo → List Bool → Geo
+set_under class name v g flags = with_column (with_head g class (record { name = name; kind = kind_of v })) class name (set_where v flags)
+
 abbrev pub created : Selecting → Class → List ℕ → List ℕ → Geo → Option Value → Outcome
 created select class name group g None = Err BadParm
-created select class name group g (Some v) =
-    then_with (select g class group) (λ flags.
-    Ok (with_column (with_head g class (record { name = name; kind = kind_of v })) class name (set_where v flags)))
+created select class name group g (Some v) = then_with (select g class group) (λ flags. Ok (set_under class name v g flags))
 
 -- `class`, `name`, `kind`, `value`, `group`
 abbrev pub attrib_create_geo : Selecting → List (List ℕ) → Geo → Outcome
-attrib_create_geo select parms g =
-    let class = class_in (parm_at parms 0) in
-    let name = parm_at parms 1 in
-    let wanted = kind_in (parm_at parms 2) in
-    if may_have class name wanted then created select class name (parm_at parms 4) g (value_in wanted (parm_at parms 3)) else Err BadParm
+attrib_create_geo select parms g = created select (class_in (parm_at parms 0)) (parm_at parms 1) (parm_at parms 4) g (value_told parms)

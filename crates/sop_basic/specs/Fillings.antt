@@ -1,12 +1,12 @@
 -- The values of an attribute set one element after the other, and an attribute made sure of. For private contracts.
-use Rattle.std.specs.Prelude.{◌≡◌, ℕ, suc, pos, List, [], ◌∷◌, Option, Some, Result, Ok, Err}
+use Rattle.std.specs.Prelude.{◌≡◌, ℕ, suc, pos, List, [], ◌∷◌, Option, None, Some, Result, Ok, Err, ⊤}
 use Rattle.sop_model.specs.declared.class.Class.{Class}
 use Rattle.sop_model.specs.declared.geo.Geo.{Geo}
 use Rattle.sop_model.specs.declared.geo.Row.{Row}
 use Rattle.sop_model.specs.declared.geo.Head.{Head}
 use Rattle.sop_model.specs.declared.fault.CookStop.{CookStop}
 use Rattle.sop_model.specs.declared.fault.CookStop.TheVariants as stop
-use Rattle.sop_model.specs.declared.fault.Fault.TheVariants.{Limit}
+use Rattle.sop_model.specs.declared.fault.Fault.TheVariants.{BadParm, Limit}
 use Rattle.sop_model.specs.declared.value.Value.{Value}
 use Rattle.sop_model.specs.declared.value.Value.TheVariants as value
 use Rattle.sop_model.specs.Geometry.{rows_of}
@@ -40,3 +40,9 @@ abbrev pub Finds : VaultMap → VaultMap → ℕ → Class → Head → Geo → 
 Finds old new key class head g (Ok number) = Changed old new key (Some g) × IsHeadAt g class head number
 Finds old new key class head g (Err (stop.Fault f)) = (f ≡ Limit) × PassesLimit g × Touched old new key
 Finds old new key class head g (Err stop.Memory) = Touched old new key
+
+-- what the code reads of parameters that may not fit
+abbrev pub ReadsValue : Option Value → Result Value CookStop → Type 0
+ReadsValue told (Ok v) = told ≡ Some v
+ReadsValue told (Err (stop.Fault f)) = (told ≡ None) × (f ≡ BadParm)
+ReadsValue told (Err stop.Memory) = ⊤

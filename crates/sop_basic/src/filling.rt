@@ -15,6 +15,7 @@ use sop_model::{Class, CookStop, GeoView, Value};
 use sop_vault::{GeoKey, Vault};
 
 /// The values that elements get.
+#[derive(Clone, Copy)]
 pub enum Filling<'a> {
     /// All the same.
     Same(&'a Value),

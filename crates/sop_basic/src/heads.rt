@@ -75,7 +75,7 @@ fn add_head<'b>(
     }
 }
 
-fn is_kind(wanted: Kind, kind: Kind) -> bool
+pub fn is_kind(wanted: Kind, kind: Kind) -> bool
     ensures { result ≡ is_kind wanted (Some kind) }
 {
     matches!(

@@ -2,6 +2,7 @@
 //! moved, and attributes that come, go and count.
 #![tactic(auto)]
 
+mod attrib_create;
 mod box_node;
 mod enumerate;
 mod filling;
