@@ -8,7 +8,6 @@ pub mod BoxLemmas
 pub mod NumberLemmas
 pub mod GridLemmas
 pub mod XformLemmas
-pub mod WeightLemmas
 pub mod RowsLemmas
 pub mod FillLemmas
 pub mod HeadLemmas

@@ -88,10 +88,10 @@ ended_as r s P ended at =
     subst P (sym is) (subst (λ (e : CookStop). P (Err e)) (sym same) at)
 
 -- ---- the limits of what was made
-pub judges_by : (g : Geo) (weight : ℕ) → IsWithin g → weight ≡ min (geo_weight g) 18446744073709551615 → weight ≤ most_weight → within_limits g ≡ Ok g
+pub judges_by : (g : Geo) (weight : ℕ) → IsWithin g → weight ≡ geo_weight g → weight ≤ most_weight → within_limits g ≡ Ok g
 judges_by g weight within is light = ap (λ b. if b then Ok g else Err fault.Limit) (fits-true g (Fits-from g within (omega (arith, is, light))))
 
-pub judges_not : (g : Geo) (weight : ℕ) → weight ≡ min (geo_weight g) 18446744073709551615 → most_weight < weight → within_limits g ≡ Err fault.Limit
+pub judges_not : (g : Geo) (weight : ℕ) → weight ≡ geo_weight g → most_weight < weight → within_limits g ≡ Err fault.Limit
 judges_not g weight is heavy = ap (λ b. if b then Ok g else Err fault.Limit) (not_fitting (fits g) refl)
   where
     not_fitting : (b : Bool) → fits g ≡ b → b ≡ false

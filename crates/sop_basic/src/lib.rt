@@ -15,7 +15,6 @@ mod movement;
 mod parm_texts;
 mod parts;
 mod quads;
-mod weight;
 mod xform;
 
 pub use loaded::{Loaded, LoadedFile};

@@ -8,7 +8,6 @@ ghost use Rattle.sop_vault.specs.Vaults.{VaultMap, Added};
 ghost use Rattle.sop_basic.specs.Outcomes.{Outcome, limited, within_limits};
 ghost use Rattle.sop_basic.specs.Making.{Makes, Prepares, Gives, Judges, stop_of};
 
-use crate::weight::weight_of;
 use sop_model::limits::MOST_WEIGHT;
 use sop_model::{CookStop, Fault};
 use sop_vault::{GeoKey, Vault, VaultEnd};
@@ -47,7 +46,8 @@ fn judge<'b>(vault: &Vault<'b>, key: GeoKey) -> Result<(), CookStop>
     requires { IsLive vault.now.geos key }
     ensures { (g : Geo) → at vault.now.geos key ≡ Some g → Judges g result }
 {
-    if weight_of(&vault.view(key)) > MOST_WEIGHT {
+    vault.is_vault();
+    if vault.weight(key) > MOST_WEIGHT {
         return Err(CookStop::Fault(Fault::Limit));
     }
     Ok(())
