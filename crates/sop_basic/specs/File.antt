@@ -3,7 +3,7 @@
 use Rattle.std.specs.Prelude.{Result, Ok, Err}
 use Rattle.sop_model.specs.declared.geo.Geo.{Geo}
 use Rattle.sop_model.specs.declared.fault.Fault.TheVariants as fault
-use Rattle.geo_text.specs.ObjReading.{obj_geo, Refusal, Number, Index, Limit}
+use Rattle.geo_text.specs.ObjMeaning.{meaning, Refusal, Number, Index, Limit}
 use Rattle.sop_basic.specs.declared.loaded.LoadedFile.{LoadedFile}
 use Rattle.sop_basic.specs.declared.loaded.LoadedFile.TheVariants.{Bytes, Missing, TooLong}
 use Rattle.sop_basic.specs.Outcomes.{Outcome}
@@ -15,6 +15,6 @@ of_text (Err (Index line)) = Err (fault.Index line)
 of_text (Err Limit) = Err fault.Limit
 
 abbrev pub file_geo : LoadedFile → Outcome
-file_geo (Bytes bytes) = of_text (obj_geo bytes)
+file_geo (Bytes bytes) = of_text (meaning bytes)
 file_geo Missing = Err fault.NoFile
 file_geo TooLong = Err fault.Limit

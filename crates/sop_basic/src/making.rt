@@ -1,5 +1,5 @@
 // Steps that make the geometry of a new key, and what becomes of the key where a step stops.
-ghost use Rattle.std.specs.Prelude.{◌≡◌, Some, Ok};
+ghost use Rattle.std.specs.Prelude.{◌≡◌, OnOk, Some, Ok};
 ghost use Rattle.sop_model.specs.declared.geo.Geo.{Geo};
 ghost use Rattle.sop_model.specs.Geometry.{IsWithin};
 ghost use Rattle.sop_model.specs.Rows.{points_added, prim_added, ArePoints};
@@ -19,7 +19,8 @@ pub fn finish<'b>(
     made: Result<(), CookStop>,
 ) -> Result<GeoKey, CookStop>
     requires { IsLive vault.old.geos key }
-    ensures { (first opened : VaultMap) (g : Geo) (outcome : Outcome) → Added first opened key (Some g) → Prepares opened vault.old key outcome made → Gives first vault.new (limited outcome) result }
+    ensures gives { (first opened : VaultMap) (g : Geo) (outcome : Outcome) → Added first opened key (Some g) → Prepares opened vault.old key outcome made → Gives first vault.new (limited outcome) result }
+    ensures still { OnOk result (vault.new ≡ vault.old) }
 {
     match judged(vault, key, made) {
         Ok(()) => Ok(key),
@@ -53,10 +54,11 @@ fn judge<'b>(vault: &Vault<'b>, key: GeoKey) -> Result<(), CookStop>
     Ok(())
 }
 
-/// A new key of the same geometry, which passes no limit.
+/// A new key of the same geometry, which passes no limit. No page is copied.
 pub fn hand_on<'b>(vault: &mut Vault<'b>, input: GeoKey) -> Result<GeoKey, CookStop>
     requires { IsLive vault.old.geos input }
-    ensures { (g : Geo) → at vault.old.geos input ≡ Some g → Gives vault.old vault.new (within_limits g) result }
+    ensures gives { (g : Geo) → at vault.old.geos input ≡ Some g → Gives vault.old vault.new (within_limits g) result }
+    ensures pages { OnOk result (vault.new.pages ≡ vault.old.pages) }
 {
     let key = vault.share(input)?;
     finish(vault, key, Ok(()))

@@ -46,4 +46,4 @@ returns c = λ g there.
     let outcome = Ok (set_under c.class_in.result c.text-2.result.now c.in-Ok.value g (replicate (count_of g c.class_in.result) true)) in
     subst (λ o. Gives c.args.vault.now c.finish.new.vault (limited o) c.finish.result)
     (create_is parms c.class_in.result c.text-2.result.now c.in-Ok.value class name c.in-Ok.ensures g)
-    (c.finish.ensures c.args.vault.now c.share.new.self g outcome add (c.set_elements-made.ensures g add.geos.here))
+    (c.finish.ensures.gives c.args.vault.now c.share.new.self g outcome add (c.set_elements-made.ensures g add.geos.here))

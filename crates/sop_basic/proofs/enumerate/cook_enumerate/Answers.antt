@@ -37,4 +37,4 @@ returns c = λ g there.
     let outcome = Ok (counted_under c.class_in-class.result c.text-name.result.now g (replicate (count_of g c.class_in-class.result) true)) in
     subst (λ o. Gives c.args.vault.now c.finish.new.vault (limited o) c.finish.result)
     (counts c.args.parms.now c.class_in-class.result c.text-name.result.now class name (sym c.may_count.ensures ∙ c.if-not-may_count.false) g)
-    (c.finish.ensures c.args.vault.now c.share.new.self g outcome add (c.count_elements-made.ensures g add.geos.here))
+    (c.finish.ensures.gives c.args.vault.now c.share.new.self g outcome add (c.count_elements-made.ensures g add.geos.here))

@@ -14,4 +14,4 @@ returns c = λ g there.
     let add = subst (λ o. Added c.args.vault.now c.share.new.self c.in_ok-key.key o) there c.in_ok-key.ensures.ok in
     subst (λ o. Gives c.args.vault.now c.finish.new.vault (limited o) c.finish.result)
     (ap (λ (m : Move). points_moved (move_rule m) g) c.of-movement.ensures ∙ moved_as_told (move_in c.args.parms.now) g)
-    (c.finish.ensures c.args.vault.now c.share.new.self g (points_moved (move_rule c.of-movement.result) g) add (prepares_of c.share.new.self c.move_points-made.new.vault c.in_ok-key.key (points_moved (move_rule c.of-movement.result) g) c.move_points-made.result (c.move_points-made.ensures g add.geos.here)))
+    (c.finish.ensures.gives c.args.vault.now c.share.new.self g (points_moved (move_rule c.of-movement.result) g) add (prepares_of c.share.new.self c.move_points-made.new.vault c.in_ok-key.key (points_moved (move_rule c.of-movement.result) g) c.move_points-made.result (c.move_points-made.ensures g add.geos.here)))
