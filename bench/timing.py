@@ -78,7 +78,7 @@ def measure(programs, row, size, runs, clock=PROCESSOR, less=("none", 0)):
     for pairs in zip(*ran):
         took, empty = (statistics.median(getattr(it, clock) for it in kind) for kind in zip(*pairs))
         whole = [full for full, _ in pairs]
-        answers.append(Measured(took - empty, max(it.memory for it in whole), {it.printed for it in whole}))
+        answers.append(Measured(max(0.0, took - empty), max(it.memory for it in whole), {it.printed for it in whole}))
     return answers
 
 
