@@ -12,6 +12,7 @@ pub mod ObjWriter
 pub mod ObjSound
 pub mod ObjGood
 pub mod ObjAnswer
+pub mod ObjWritten
 pub mod ObjVectors
 pub mod ObjNames
 pub mod ObjReferencing

@@ -205,7 +205,7 @@ module _ (has : Attributes) (textures normals : List Vec3) where
       let points = sum_most row_weight 6 (place_rows places) (point_rows (λ row. row_weight row ≤ 6) (λ p. point_weight has.colour p.at (unwrap_or p.colour zero_vector)) places) in
       let prims = sum_most row_weight 0 (rows_of g Prim) (prim_rows (λ row. row_weight row ≤ 0) (group_names shapes) (λ s. omega arith) shapes) in
       let vertices = sum_most row_weight 6 (rows_of g Vertex)
-        (vertices_rows (λ row. row_weight row ≤ 6) (λ n. let v = vertex_of textures normals n in vertex_weight has.texture has.normal v.texture v.normal) (length places) shapes all) in
+      (vertices_rows (λ row. row_weight row ≤ 6) (λ n. let v = vertex_of textures normals n in vertex_weight has.texture has.normal v.texture v.normal) (length places) shapes all) in
       let detail : sum_by row_weight (rows_of g Detail) ≤ 0 = omega (arith, sum_by-cons row_weight empty_row []) in
       let many = length-map places (λ (p : Place). point_row has p.at p.colour) in
       let corners : length (rows_of g Vertex) ≡ corners_in shapes = length-map (corners_of g.prims) (λ (c : Corner). c.row) ∙ corners_many (group_names shapes) shapes in

@@ -6,7 +6,7 @@ pub mod geo_maker;
 mod group_name;
 mod groups;
 pub mod obj;
-mod obj_fault;
+pub mod obj_fault;
 mod obj_lines;
 pub mod obj_writer;
 mod part;
