@@ -13,6 +13,7 @@ pub mod ObjSound
 pub mod ObjGood
 pub mod ObjAnswer
 pub mod ObjWritten
+pub mod ObjTextLines
 pub mod ObjVectors
 pub mod ObjNames
 pub mod ObjReferencing
