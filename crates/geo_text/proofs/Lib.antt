@@ -14,6 +14,7 @@ pub mod ObjGood
 pub mod ObjAnswer
 pub mod ObjWritten
 pub mod ObjTextLines
+pub mod ObjPlain
 pub mod ObjVectors
 pub mod ObjNames
 pub mod ObjReferencing

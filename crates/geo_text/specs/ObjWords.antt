@@ -1,5 +1,5 @@
 -- Texts that are made of lines of words.
-use Rattle.std.specs.Prelude.{ℕ, ◌+◌, Bool, true, false, ◌&&◌, not, ◌==◌, if◌then◌else◌, List, [], ◌∷◌, ◌++◌, map, Option, None, Some, codes, decimal}
+use Rattle.std.specs.Prelude.{ℕ, ◌+◌, Bool, true, false, ◌&&◌, not, ◌==◌, nat_lt, if◌then◌else◌, List, [], ◌∷◌, ◌++◌, map, Option, None, Some, codes, decimal}
 use Rattle.std.specs.List.{list_all, flat_map}
 use Rattle.sop_fixed.specs.Numerals.{decimal_of}
 use Rattle.sop_fixed.specs.declared.vec3.Vec3.{Vec3}
@@ -27,9 +27,9 @@ line_text words = words_text words ++ 10 ∷ []
 abbrev pub lines_text : List (List (List ℕ)) → List ℕ
 lines_text lines = flat_map line_text lines
 
--- a byte that may stand anywhere in a word that is written
+-- a byte below 128 that may stand anywhere in a word that is written
 abbrev pub is_plain_byte : ℕ → Bool
-is_plain_byte b = not (ends_word b) && not (b == 92)
+is_plain_byte b = not (ends_word b) && not (b == 92) && nat_lt b 128
 
 -- a word that is written: it has bytes, and is no comment
 abbrev pub is_plain_word : List ℕ → Bool
