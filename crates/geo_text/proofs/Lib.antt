@@ -12,6 +12,9 @@ pub mod ObjWriter
 pub mod ObjSound
 pub mod ObjGood
 pub mod ObjAnswer
+pub mod ObjWritten
+pub mod ObjTextLines
+pub mod ObjPlain
 pub mod ObjVectors
 pub mod ObjNames
 pub mod ObjReferencing

@@ -16,3 +16,4 @@ pub mod ObjRun
 pub mod ObjLoop
 pub mod ObjSurvey
 pub mod ObjFlags
+pub mod ObjWords

@@ -137,7 +137,7 @@ fn point_row(
 ) -> Result<Row, AllocError>
     ensures { IfOk result (λ row. row ≡ point_row has place colour) }
 {
-    let mut values = ValueList::with_capacity(alloc, 2)?;
+    let mut values = ValueList::with_capacity(alloc, 1 + usize::from(has.colour))?;
     values.add(Value::Vector(place))?;
     add_value(&mut values, has.colour, colour.unwrap_or(zero_vector()))?;
     Ok(Row {
@@ -160,7 +160,8 @@ fn add_value(values: &mut ValueList, is_wanted: bool, value: Vec3) -> Result<(),
 fn vertex_row(alloc: Global, has: Attributes, vertex: &Vertex) -> Result<Row, AllocError>
     ensures { IfOk result (λ row. row ≡ vertex_row has vertex.now) }
 {
-    let mut values = ValueList::new(alloc);
+    let count = usize::from(has.texture) + usize::from(has.normal);
+    let mut values = ValueList::with_capacity(alloc, count)?;
     add_value(&mut values, has.texture, vertex.texture)?;
     add_value(&mut values, has.normal, vertex.normal)?;
     Ok(Row {

@@ -7,7 +7,7 @@ mod group_name;
 mod groups;
 mod listing;
 pub mod obj;
-mod obj_fault;
+pub mod obj_fault;
 mod obj_lines;
 pub mod obj_writer;
 mod part;
