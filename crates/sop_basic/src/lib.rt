@@ -4,6 +4,7 @@
 
 mod attrib_create;
 mod box_node;
+mod cook;
 mod enumerate;
 mod filling;
 mod grid;
@@ -18,4 +19,5 @@ mod quads;
 mod weight;
 mod xform;
 
+pub use cook::cook_basic;
 pub use loaded::{Loaded, LoadedFile};
