@@ -14,3 +14,4 @@ pub mod HeadLemmas
 pub mod ColumnLemmas
 pub mod EnumerateLemmas
 pub mod CreateLemmas
+pub mod CookLemmas

@@ -18,3 +18,4 @@ pub mod Making
 pub mod Movements
 pub mod Rules
 pub mod Fillings
+pub mod Cook

@@ -4,6 +4,7 @@
 
 mod attrib_create;
 mod box_node;
+mod cook;
 mod enumerate;
 mod filling;
 mod grid;
@@ -17,4 +18,5 @@ mod parts;
 mod quads;
 mod xform;
 
+pub use cook::cook_basic;
 pub use loaded::{Loaded, LoadedFile};
