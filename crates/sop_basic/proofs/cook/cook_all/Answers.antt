@@ -21,7 +21,7 @@ hand_on-requires c = given_live c.args.vault.now c.args.inputs.now 0 c.given.res
 pub returns-in-Null : goal.returns-in-Null
 returns-in-Null c = λ files.
     subst (λ t. Gives c.args.vault.now c.hand_on.new.vault (basic_geo everything files t c.args.parms.now (inputs_seen c.args.vault.now c.args.inputs.now)) c.hand_on.result) (sym c.in-Null.is)
-    (gives_input c.args.vault.now c.hand_on.new.vault c.args.inputs.now 0 c.given.result Ok c.hand_on.result (c.requires.inputs 0 (ap (λ t. needed_input t c.args.parms.now) c.in-Null.is)) c.given.ensures c.hand_on.ensures)
+    (gives_input c.args.vault.now c.hand_on.new.vault c.args.inputs.now 0 c.given.result Ok c.hand_on.result (c.requires.inputs 0 (ap (λ t. needed_input t c.args.parms.now) c.in-Null.is)) c.given.ensures c.hand_on.ensures.gives)
 
 pub given-requires-in-Xform : goal.given-requires-in-Xform
 given-requires-in-Xform c = let is = c.requires.inputs 0 (ap (λ t. needed_input t c.args.parms.now) c.in-Xform.is) in (is.key, is.given)
@@ -72,4 +72,4 @@ returns-in-Switch c = λ files.
     let number = c.count_in.ensures ∙ ap count_in (sym (parm_read c.args.parms.now 0 c.text.result.now c.text.ensures)) in
     subst (λ t. Gives c.args.vault.now c.hand_on-in-Switch.new.vault (basic_geo everything files t c.args.parms.now (inputs_seen c.args.vault.now c.args.inputs.now)) c.hand_on-in-Switch.result) (sym c.in-Switch.is)
     (subst (λ i. Gives c.args.vault.now c.hand_on-in-Switch.new.vault (limited (with_input (inputs_seen c.args.vault.now c.args.inputs.now) i Ok)) c.hand_on-in-Switch.result) number
-    (gives_input c.args.vault.now c.hand_on-in-Switch.new.vault c.args.inputs.now c.count_in.result c.given-in-Switch.result Ok c.hand_on-in-Switch.result (c.requires.inputs c.count_in.result (ap (λ t. needed_input t c.args.parms.now) c.in-Switch.is ∙ ap Some (sym number))) c.given-in-Switch.ensures c.hand_on-in-Switch.ensures))
+    (gives_input c.args.vault.now c.hand_on-in-Switch.new.vault c.args.inputs.now c.count_in.result c.given-in-Switch.result Ok c.hand_on-in-Switch.result (c.requires.inputs c.count_in.result (ap (λ t. needed_input t c.args.parms.now) c.in-Switch.is ∙ ap Some (sym number))) c.given-in-Switch.ensures c.hand_on-in-Switch.ensures.gives))
