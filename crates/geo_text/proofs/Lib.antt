@@ -15,6 +15,7 @@ pub mod ObjAnswer
 pub mod ObjWritten
 pub mod ObjTextLines
 pub mod ObjPlain
+pub mod ObjReadBack
 pub mod ObjVectors
 pub mod ObjNames
 pub mod ObjReferencing
