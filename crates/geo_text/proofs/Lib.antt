@@ -16,6 +16,7 @@ pub mod ObjWritten
 pub mod ObjTextLines
 pub mod ObjPlain
 pub mod ObjReadBack
+pub mod ObjGives
 pub mod ObjVectors
 pub mod ObjNames
 pub mod ObjReferencing

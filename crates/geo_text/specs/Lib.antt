@@ -15,3 +15,4 @@ pub mod ObjLoop
 pub mod ObjSurvey
 pub mod ObjFlags
 pub mod ObjWords
+pub mod ObjPieces
