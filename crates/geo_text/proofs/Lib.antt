@@ -17,6 +17,7 @@ pub mod ObjTextLines
 pub mod ObjPlain
 pub mod ObjReadBack
 pub mod ObjGives
+pub mod ObjRoundTrip
 pub mod ObjVectors
 pub mod ObjNames
 pub mod ObjReferencing
