@@ -18,6 +18,7 @@ pub mod ObjPlain
 pub mod ObjReadBack
 pub mod ObjGives
 pub mod ObjRoundTrip
+pub mod ObjShapesBack
 pub mod ObjUnrefused
 pub mod ObjVectors
 pub mod ObjNames
