@@ -15,6 +15,11 @@ pub mod ObjAnswer
 pub mod ObjWritten
 pub mod ObjTextLines
 pub mod ObjPlain
+pub mod ObjReadBack
+pub mod ObjGives
+pub mod ObjRoundTrip
+pub mod ObjShapesBack
+pub mod ObjUnrefused
 pub mod ObjVectors
 pub mod ObjNames
 pub mod ObjReferencing

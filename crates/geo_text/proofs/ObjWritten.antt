@@ -132,7 +132,7 @@ abbrev pub said_words : ℕ → List (List (List ℕ)) → List Said
 said_words number [] = record { line = number; statement = statement_of [] } ∷ []
 said_words number (words ∷ lines) = record { line = number; statement = statement_of words } ∷ said_words (number + 1) lines
 
-one_text : (words : List (List ℕ)) (lines : List (List (List ℕ))) → lines_text (words ∷ lines) ≡ words_text words ++ 10 ∷ lines_text lines
+pub one_text : (words : List (List ℕ)) (lines : List (List (List ℕ))) → lines_text (words ∷ lines) ≡ words_text words ++ 10 ∷ lines_text lines
 one_text words lines = append_assoc (words_text words) (10 ∷ []) (lines_text lines)
 
 pub said_written : (number : ℕ) (lines : List (List (List ℕ))) → are_plain_lines lines ≡ true → map said_by (numbered number (slice_split is_line_feed (joined (lines_text lines)))) ≡ said_words number lines

@@ -17,3 +17,4 @@ pub mod ObjLoop
 pub mod ObjSurvey
 pub mod ObjFlags
 pub mod ObjWords
+pub mod ObjPieces
