@@ -171,8 +171,8 @@ all_given g good f real =
     give_append whole (points ++ textures ++ normals) (point_pieces ++ map TexturePiece (vectors_under uv rows) ++ map NormalPiece (vectors_under n rows))
     (prims_words g 0 (no_flags g) g.prims) (prims_pieces g 0 (no_flags g) g.prims)
     (give_append whole (points ++ textures) (point_pieces ++ map TexturePiece (vectors_under uv rows)) normals (map NormalPiece (vectors_under n rows))
-      (give_append whole points point_pieces textures (map TexturePiece (vectors_under uv rows)) (points_given whole colour g.points (real.rows Point)) (some_textures whole uv rows (real.rows Vertex)))
-      (some_normals whole n rows (real.rows Vertex)))
+    (give_append whole points point_pieces textures (map TexturePiece (vectors_under uv rows)) (points_given whole colour g.points (real.rows Point)) (some_textures whole uv rows (real.rows Vertex)))
+    (some_normals whole n rows (real.rows Vertex)))
     (prims_given g whole 0 (no_flags g) g.prims (suits g good f) good.corners good.sound.points)
 
 -- ---- the words of all lines are plain
@@ -226,16 +226,18 @@ prims_plain g before flags (p ∷ prims) names less all =
     let long = length-append p.corners (corners_of prims) in
     lines_append (change_words g flags p) (shape_words g before p ∷ prims_words g (before + size_of p) p.row.flags prims) (change (same_flags flags p.row.flags))
     (and_from (are_plain_words (shape_words g before p)) (are_plain_lines (prims_words g (before + size_of p) p.row.flags prims))
-      (and_from (is_plain_word (if p.closed then codes "f" else codes "l")) (are_plain_words (references_words (parts_of g p) before p.corners)) (key_plain p.closed)
-        (references_plain (parts_of g p) before p.corners (omega (arith, long)) (All-front p.corners (corners_of prims) all)))
-      (prims_plain g (before + size_of p) p.row.flags prims names (omega (arith, long)) (All-back p.corners (corners_of prims) all)))
+    (and_from (is_plain_word (if p.closed then codes "f" else codes "l")) (are_plain_words (references_words (parts_of g p) before p.corners)) (key_plain p.closed)
+    (references_plain (parts_of g p) before p.corners (omega (arith, long)) (All-front p.corners (corners_of prims) all)))
+    (prims_plain g (before + size_of p) p.row.flags prims names (omega (arith, long)) (All-back p.corners (corners_of prims) all)))
   where
     change : (b : Bool) → are_plain_lines (if b then [] else (codes "g" ∷ groups_of g p) ∷ []) ≡ true
     change true = refl
     change false = and_from (are_plain_words (codes "g" ∷ groups_of g p)) true (chosen_plain p.row.flags g.prim.groups names) refl
+
     All-front : (xs ys : List Corner) → All (λ c. c.point < 1000000) (xs ++ ys) → All (λ c. c.point < 1000000) xs
     All-front [] ys all = All-nil (λ c. c.point < 1000000)
     All-front (x ∷ xs) ys all = All-cons (λ c. c.point < 1000000) x xs (All-head (λ c. c.point < 1000000) x (xs ++ ys) all) (All-front xs ys (All-tail (λ c. c.point < 1000000) x (xs ++ ys) all))
+
     All-back : (xs ys : List Corner) → All (λ c. c.point < 1000000) (xs ++ ys) → All (λ c. c.point < 1000000) ys
     All-back [] ys all = all
     All-back (x ∷ xs) ys all = All-back xs ys (All-tail (λ c. c.point < 1000000) x (xs ++ ys) all)
@@ -251,6 +253,6 @@ all_plain g good f real =
     let below = All-weaker (λ (c : Corner). c.point < length g.points) (λ c. c.point < 1000000) (λ c h. omega (arith, h, few)) (corners_of g.prims) good.sound.points in
     lines_append (map (point_words colour) g.points ++ textures ++ normals) (prims_words g 0 (no_flags g) g.prims)
     (lines_append (map (point_words colour) g.points ++ textures) normals
-      (lines_append (map (point_words colour) g.points) textures (points_plain colour g.points (real.rows Point)) (some_plain (codes "vt") (vector_head g.vertex (codes "uv")) rows refl (real.rows Vertex)))
-      (some_plain (codes "vn") (vector_head g.vertex (codes "N")) rows refl (real.rows Vertex)))
+    (lines_append (map (point_words colour) g.points) textures (points_plain colour g.points (real.rows Point)) (some_plain (codes "vt") (vector_head g.vertex (codes "uv")) rows refl (real.rows Vertex)))
+    (some_plain (codes "vn") (vector_head g.vertex (codes "N")) rows refl (real.rows Vertex)))
     (prims_plain g 0 (no_flags g) g.prims (good.sound.named Prim).groups (let e = within_vertices within in omega (arith, e)) below)

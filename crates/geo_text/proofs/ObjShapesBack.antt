@@ -56,8 +56,10 @@ prims_back g before flags (p ∷ prims) =
   where
     here : List Named
     here = named_written (parts_of g p) before p.corners
+
     later : List Piece
     later = prims_pieces g (before + size_of p) p.row.flags prims ++ NoPiece ∷ []
+
     shape : Shaped
     shape = record { closed = p.closed; corners = here; groups = groups_of g p }
 
