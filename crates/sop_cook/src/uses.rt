@@ -1,4 +1,4 @@
-//! How often each node is used in a cook, so that a geometry is copied only where a later use is left.
+//! How often each node is used in a cook, so that a share of a geometry is kept only where a later use is left.
 ghost use Rattle.std.specs.Prelude.{◌≡◌, length, IfOk};
 ghost use Rattle.sop_net.specs.Network.{IsLive, used_sources};
 ghost use Rattle.sop_net.specs.Graph.{Within};
