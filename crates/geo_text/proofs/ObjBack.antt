@@ -1,0 +1,121 @@
+-- What the pieces of a text that is written make.
+use Rattle.std.proofs.Common.{◌≡◌, ℕ, ◌+◌, ◌<◌, List, [], ◌∷◌, ◌++◌, length, map, append_assoc, append-nil, refl, sym, ap, ◌∙◌, subst, arith, Option, Some, None, Bool, true, false, inl, inr, ◌⊎◌}
+use Rattle.std.specs.Prelude.{◌||◌, filter_map, is_some, codes, All}
+use Rattle.std.specs.List.{list_any}
+use Rattle.std.proofs.lemmas.Bool.{cases_Bool}
+use Rattle.std.proofs.lemmas.List.Elements.{All-head, All-tail}
+use Rattle.sop_fixed.specs.declared.vec3.Vec3.{Vec3}
+use Rattle.sop_model.specs.declared.class.Class.TheVariants.{Vertex}
+use Rattle.sop_model.specs.declared.geo.Geo.{Geo}
+use Rattle.sop_model.specs.declared.geo.Row.{Row}
+use Rattle.sop_model.specs.declared.geo.Corner.{Corner}
+use Rattle.sop_model.specs.declared.geo.Primitive.{Primitive}
+use Rattle.sop_model.specs.Vertices.{size_of, corners_of}
+use Rattle.sop_model.specs.Geometry.{rows_of}
+use Rattle.geo_text.specs.declared.obj_writer.Parts.{Parts}
+use Rattle.geo_text.specs.declared.reference.Named.{Named}
+use Rattle.geo_text.specs.ObjLines.{is_filled}
+use Rattle.geo_text.specs.ObjStatements.{Place}
+use Rattle.geo_text.specs.ObjMeaning.{Piece, PointPiece, TexturePiece, NormalPiece, ShapePiece, GroupsPiece, NoPiece, Shaped, place_of, texture_of, normal_of, shapes_under, geo_of, geo_from, attributes_of}
+use Rattle.geo_text.specs.ObjText.{vector_head, parts_of, same_flags, groups_of, no_flags}
+use Rattle.geo_text.specs.ObjPieces.{place_written, vectors_under, number_if, named_written, prims_pieces, pieces_written}
+use Rattle.geo_text.specs.Carried.{head_where, colour_of}
+use Rattle.geo_text.proofs.ObjShapesBack.{shapes_written, shapes_back}
+
+-- ---- the pieces of one kind
+taken_all : {A B : Type 0} (take : Piece → Option B) (piece : A → Piece) (value : A → B) (xs : List A) (rest : List Piece) → ((x : A) → take (piece x) ≡ Some (value x))
+    → filter_map take (map piece xs ++ rest) ≡ map value xs ++ filter_map take rest
+taken_all take piece value [] rest h = refl
+taken_all take piece value (x ∷ xs) rest h = rw (h x) (ap (λ l. value x ∷ l) (taken_all take piece value xs rest h))
+
+taken_none : {A B : Type 0} (take : Piece → Option B) (piece : A → Piece) (xs : List A) (rest : List Piece) → ((x : A) → take (piece x) ≡ None)
+    → filter_map take (map piece xs ++ rest) ≡ filter_map take rest
+taken_none take piece [] rest h = refl
+taken_none take piece (x ∷ xs) rest h = rw (h x) (taken_none take piece xs rest h)
+
+prims_none : {B : Type 0} (take : Piece → Option B) (g : Geo) (before : ℕ) (flags : List Bool) (prims : List Primitive) → ((closed : Bool) (corners : List Named) → take (ShapePiece closed corners) ≡ None)
+    → ((names : List (List ℕ)) → take (GroupsPiece names) ≡ None) → take NoPiece ≡ None → filter_map take (prims_pieces g before flags prims ++ NoPiece ∷ []) ≡ []
+prims_none take g before flags [] s n e = rw e refl
+prims_none take g before flags (p ∷ prims) s n e =
+    let rest = prims_none take g (before + size_of p) p.row.flags prims s n e in
+    elim (cases_Bool (same_flags flags p.row.flags)) [
+      | inl same ↦ rw same (rw (s p.closed (named_written (parts_of g p) before p.corners)) rest)
+      | inr other ↦ rw other (rw (n (groups_of g p)) (rw (s p.closed (named_written (parts_of g p) before p.corners)) rest))
+    ]
+
+map_same : {A : Type 0} (xs : List A) → map (λ x. x) xs ≡ xs
+map_same [] = refl
+map_same (x ∷ xs) = ap (λ l. x ∷ l) (map_same xs)
+
+abbrev blocks : Geo → List Piece
+blocks g =
+    map (λ row. PointPiece (place_written (vector_head g.point (codes "Cd")) row)) g.points
+    ++ (map TexturePiece (vectors_under (vector_head g.vertex (codes "uv")) (rows_of g Vertex))
+    ++ (map NormalPiece (vectors_under (vector_head g.vertex (codes "N")) (rows_of g Vertex)) ++ (prims_pieces g 0 (no_flags g) g.prims ++ NoPiece ∷ [])))
+
+in_blocks : (g : Geo) → pieces_written g ++ NoPiece ∷ [] ≡ blocks g
+in_blocks g = simp append_assoc
+
+pub places_back : (g : Geo) → filter_map place_of (pieces_written g ++ NoPiece ∷ []) ≡ map (place_written (vector_head g.point (codes "Cd"))) g.points
+places_back g =
+    let colour = vector_head g.point (codes "Cd") in
+    let textures = vectors_under (vector_head g.vertex (codes "uv")) (rows_of g Vertex) in
+    let normals = vectors_under (vector_head g.vertex (codes "N")) (rows_of g Vertex) in
+    let prims = prims_pieces g 0 (no_flags g) g.prims ++ NoPiece ∷ [] in
+    ap (filter_map place_of) (in_blocks g)
+    ∙ taken_all place_of (λ row. PointPiece (place_written colour row)) (place_written colour) g.points (map TexturePiece textures ++ (map NormalPiece normals ++ prims)) (λ row. refl)
+    ∙ ap (λ l. map (place_written colour) g.points ++ l) (taken_none place_of TexturePiece textures (map NormalPiece normals ++ prims) (λ v. refl)
+        ∙ taken_none place_of NormalPiece normals prims (λ v. refl) ∙ prims_none place_of g 0 (no_flags g) g.prims (λ c n. refl) (λ n. refl) refl)
+    ∙ append-nil (map (place_written colour) g.points)
+
+pub textures_back : (g : Geo) → filter_map texture_of (pieces_written g ++ NoPiece ∷ []) ≡ vectors_under (vector_head g.vertex (codes "uv")) (rows_of g Vertex)
+textures_back g =
+    let colour = vector_head g.point (codes "Cd") in
+    let textures = vectors_under (vector_head g.vertex (codes "uv")) (rows_of g Vertex) in
+    let normals = vectors_under (vector_head g.vertex (codes "N")) (rows_of g Vertex) in
+    let prims = prims_pieces g 0 (no_flags g) g.prims ++ NoPiece ∷ [] in
+    ap (filter_map texture_of) (in_blocks g)
+    ∙ taken_none texture_of (λ row. PointPiece (place_written colour row)) g.points (map TexturePiece textures ++ (map NormalPiece normals ++ prims)) (λ row. refl)
+    ∙ taken_all texture_of TexturePiece (λ v. v) textures (map NormalPiece normals ++ prims) (λ v. refl)
+    ∙ ap (λ l. map (λ v. v) textures ++ l) (taken_none texture_of NormalPiece normals prims (λ v. refl) ∙ prims_none texture_of g 0 (no_flags g) g.prims (λ c n. refl) (λ n. refl) refl)
+    ∙ append-nil (map (λ v. v) textures) ∙ map_same textures
+
+pub normals_back : (g : Geo) → filter_map normal_of (pieces_written g ++ NoPiece ∷ []) ≡ vectors_under (vector_head g.vertex (codes "N")) (rows_of g Vertex)
+normals_back g =
+    let colour = vector_head g.point (codes "Cd") in
+    let textures = vectors_under (vector_head g.vertex (codes "uv")) (rows_of g Vertex) in
+    let normals = vectors_under (vector_head g.vertex (codes "N")) (rows_of g Vertex) in
+    let prims = prims_pieces g 0 (no_flags g) g.prims ++ NoPiece ∷ [] in
+    ap (filter_map normal_of) (in_blocks g)
+    ∙ taken_none normal_of (λ row. PointPiece (place_written colour row)) g.points (map TexturePiece textures ++ (map NormalPiece normals ++ prims)) (λ row. refl)
+    ∙ taken_none normal_of TexturePiece textures (map NormalPiece normals ++ prims) (λ v. refl)
+    ∙ taken_all normal_of NormalPiece (λ v. v) normals prims (λ v. refl)
+    ∙ ap (λ l. map (λ v. v) normals ++ l) (prims_none normal_of g 0 (no_flags g) g.prims (λ c n. refl) (λ n. refl) refl)
+    ∙ append-nil (map (λ v. v) normals) ∙ map_same normals
+
+-- ---- the geometry that they make
+abbrev pub read_again : Geo → Geo
+read_again g =
+    geo_from (vectors_under (vector_head g.vertex (codes "uv")) (rows_of g Vertex)) (vectors_under (vector_head g.vertex (codes "N")) (rows_of g Vertex))
+    (map (place_written (vector_head g.point (codes "Cd"))) g.points) (shapes_written g 0 g.prims)
+
+pub geo_back : (g : Geo) → geo_of (pieces_written g ++ NoPiece ∷ []) ≡ read_again g
+geo_back g =
+    let pieces = pieces_written g ++ NoPiece ∷ [] in
+    ap (λ t. geo_from t (filter_map normal_of pieces) (filter_map place_of pieces) (shapes_under [] pieces)) (textures_back g)
+    ∙ ap (λ n. geo_from (vectors_under (vector_head g.vertex (codes "uv")) (rows_of g Vertex)) n (filter_map place_of pieces) (shapes_under [] pieces)) (normals_back g)
+    ∙ ap (λ l. geo_from (vectors_under (vector_head g.vertex (codes "uv")) (rows_of g Vertex)) (vectors_under (vector_head g.vertex (codes "N")) (rows_of g Vertex)) l (shapes_under [] pieces)) (places_back g)
+    ∙ ap (geo_from (vectors_under (vector_head g.vertex (codes "uv")) (rows_of g Vertex)) (vectors_under (vector_head g.vertex (codes "N")) (rows_of g Vertex)) (map (place_written (vector_head g.point (codes "Cd"))) g.points)) (shapes_back g)
+
+-- ---- which attributes they have
+colours_any : (colour : Option ℕ) (rows : List Row) → list_any (λ p. is_some p.colour) (map (place_written colour) rows) ≡ is_some (head_where (is_filled rows) colour)
+colours_any colour [] = refl
+colours_any None (row ∷ rows) = colours_none rows
+  where
+    colours_none : (rows : List Row) → list_any (λ p. is_some p.colour) (map (place_written None) rows) ≡ false
+    colours_none [] = refl
+    colours_none (row ∷ rows) = colours_none rows
+colours_any (Some head) (row ∷ rows) = refl
+
+pub colour_back : (g : Geo) → list_any (λ p. is_some p.colour) (map (place_written (vector_head g.point (codes "Cd"))) g.points) ≡ is_some (colour_of g)
+colour_back g = colours_any (vector_head g.point (codes "Cd")) g.points
