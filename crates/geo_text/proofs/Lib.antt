@@ -20,6 +20,7 @@ pub mod ObjGives
 pub mod ObjRoundTrip
 pub mod ObjShapesBack
 pub mod ObjBack
+pub mod ObjPigeon
 pub mod ObjPrimsBack
 pub mod ObjUnrefused
 pub mod ObjVectors

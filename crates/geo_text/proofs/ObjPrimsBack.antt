@@ -30,6 +30,7 @@ use Rattle.geo_text.specs.Carried.{AreReal, head_where, value_where, normal_wher
 use Rattle.geo_text.proofs.ObjShapesBack.{shapes_written}
 use Rattle.geo_text.proofs.ObjBack.{has_carried, attributes_back, points_back, read_again, geo_back}
 use Rattle.geo_text.proofs.ObjUnrefused.{text_read}
+use Rattle.geo_text.proofs.ObjPigeon.{used_few}
 
 at_front : {A : Type 0} (front : List A) (x : A) (back : List A) (k : ℕ) → length front ≡ k → slice_get (front ++ x ∷ back) k ≡ Some x
 at_front [] x back zero h = refl
@@ -139,3 +140,7 @@ again_carried g good few =
 -- the text of a geometry means what it carries, where it uses as many groups as a class may have
 pub round_trip_few : (g : Geo) → IsGood g → Fits g → AreReal g → length (used_groups g) ≤ most_groups → meaning (text_of g) ≡ Ok (carried g)
 round_trip_few g good f real few = text_read g good f real ∙ ap Ok (geo_back g ∙ again_carried g good few)
+
+-- the text of a geometry means what it carries
+pub round_trip : (g : Geo) → IsGood g → Fits g → AreReal g → meaning (text_of g) ≡ Ok (carried g)
+round_trip g good f real = round_trip_few g good f real (used_few g f)
