@@ -1,10 +1,9 @@
 -- What the pieces of a text that is written make.
-use Rattle.std.proofs.Common.{◌≡◌, ℕ, ◌+◌, ◌<◌, List, [], ◌∷◌, ◌++◌, length, map, append_assoc, append-nil, refl, sym, ap, ◌∙◌, subst, arith, Option, Some, None, Bool, true, false, inl, inr, ◌⊎◌}
+use Rattle.std.proofs.Common.{◌≡◌, ℕ, ◌+◌, ◌<◌, List, [], ◌∷◌, ◌++◌, length, map, append_assoc, append-nil, refl, sym, ap, ◌∙◌, arith, Option, Some, None, Bool, true, false, inl, inr}
 use Rattle.std.specs.Prelude.{◌||◌, ◌&&◌, unwrap_or, option_map, filter_map, is_some, codes, All}
 use Rattle.std.specs.List.{list_any}
 use Rattle.std.proofs.lemmas.Bool.{cases_Bool}
 use Rattle.std.proofs.lemmas.List.Elements.{All-head, All-tail}
-use Rattle.sop_fixed.specs.declared.vec3.Vec3.{Vec3}
 use Rattle.sop_model.specs.declared.class.Class.TheVariants.{Vertex}
 use Rattle.sop_model.specs.declared.geo.Geo.{Geo}
 use Rattle.sop_model.specs.declared.geo.Row.{Row}
@@ -15,14 +14,12 @@ use Rattle.sop_model.specs.Geometry.{rows_of}
 use Rattle.geo_text.specs.declared.obj_writer.Parts.{Parts}
 use Rattle.geo_text.specs.declared.reference.Named.{Named}
 use Rattle.geo_text.specs.ObjLines.{is_filled}
-use Rattle.geo_text.specs.ObjStatements.{Place}
-use Rattle.geo_text.specs.ObjMeaning.{Piece, PointPiece, TexturePiece, NormalPiece, ShapePiece, GroupsPiece, NoPiece, Shaped, place_of, texture_of, normal_of, shapes_under, geo_of, geo_from, attributes_of}
+use Rattle.geo_text.specs.ObjMeaning.{Piece, PointPiece, TexturePiece, NormalPiece, ShapePiece, GroupsPiece, NoPiece, place_of, texture_of, normal_of, shapes_under, geo_of, geo_from, attributes_of}
 use Rattle.geo_text.specs.ObjText.{vector_head, vector_under, parts_of, same_flags, groups_of, no_flags}
-use Rattle.geo_text.specs.ObjPieces.{place_written, vectors_under, number_if, named_written, prims_pieces, pieces_written}
+use Rattle.geo_text.specs.ObjPieces.{place_written, vectors_under, named_written, prims_pieces, pieces_written}
 use Rattle.geo_text.specs.Carried.{head_where, colour_of, value_where, carried_point}
 use Rattle.geo_text.specs.ObjTaking.{point_row, value_if}
 use Rattle.geo_text.specs.declared.taker.Attributes.{Attributes}
-use Rattle.sop_model.specs.declared.value.Value.{Value}
 use Rattle.sop_model.specs.declared.value.Value.TheVariants as value
 use Rattle.sop_model.specs.Values.{zero_vector}
 use Rattle.sop_model.specs.Places.{place_of as place_in}

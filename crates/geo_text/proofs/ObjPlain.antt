@@ -1,13 +1,12 @@
 -- The words of a text that is written are plain.
-use Rattle.std.proofs.Common.{◌≡◌, ℕ, zero, suc, ◌+◌, ◌-◌, ◌*◌, ◌/◌, ◌%◌, ◌^◌, ◌<◌, ◌≤◌, List, [], ◌∷◌, ◌++◌, length, map, take, replicate, append_assoc, refl, sym, ap, ◌∙◌, subst, arith, rules, Option, Some, None, Bool, true, false, not, ℤ, unsigned_abs}
-use Rattle.std.specs.Prelude.{◌&&◌, ◌||◌, ◌==◌, All, slice_get, codes, decimal, if◌then◌else◌, pos}
+use Rattle.std.proofs.Common.{◌≡◌, ℕ, zero, suc, ◌-◌, ◌/◌, ◌%◌, ◌^◌, ◌<◌, ◌≤◌, List, [], ◌∷◌, ◌++◌, length, take, replicate, refl, arith, rules, Bool, true, false, not, ℤ, unsigned_abs}
+use Rattle.std.specs.Prelude.{◌&&◌, ◌==◌, All, slice_get, codes, decimal, if◌then◌else◌}
 use Rattle.std.specs.List.{list_all, suffix_len, items_where_true}
 use Rattle.std.specs.Char.{is_ascii_digit}
 use Rattle.std.proofs.lemmas.Bool.{and_parts, and_from}
 use Rattle.std.proofs.lemmas.Bool.Decides.{nat_tests}
 use Rattle.std.proofs.lemmas.Fmt.{digits_decimal, decimal_nonempty}
 use Rattle.std.proofs.lemmas.Str.Parse.{IsNumeralModel, numerals_by_weight}
-use Rattle.std.proofs.lemmas.List.Folds.{list_all-append}
 use Rattle.std.proofs.lemmas.List.Elements.{All-head, All-tail}
 use Rattle.sop_fixed.specs.declared.vec3.Vec3.{Vec3}
 use Rattle.sop_fixed.specs.Numbers.{is_negative, largest_size}

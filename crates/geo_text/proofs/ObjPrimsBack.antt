@@ -1,9 +1,7 @@
 -- The primitives of a text that is written are those that it carries.
-use Rattle.std.proofs.Common.{◌≡◌, ℕ, zero, suc, ◌+◌, ◌≤◌, ◌<◌, List, [], ◌∷◌, ◌++◌, length, map, append_assoc, length-append, refl, sym, ap, ◌∙◌, subst, arith, Option, Some, None, Bool, true, false, Ok, inl, inr, ◌⊎◌}
-use Rattle.std.specs.Prelude.{◌||◌, ◌&&◌, if◌then◌else◌, unwrap_or, option_map, take, is_some, slice_get, codes, All}
+use Rattle.std.proofs.Common.{◌≡◌, ℕ, zero, suc, ◌+◌, ◌≤◌, List, [], ◌∷◌, ◌++◌, length, map, append_assoc, length-append, refl, sym, ap, ◌∙◌, arith, Option, Some, None, Bool, true, false, Ok}
+use Rattle.std.specs.Prelude.{◌||◌, ◌&&◌, unwrap_or, option_map, take, is_some, slice_get, codes}
 use Rattle.std.specs.List.{list_any, flat_map}
-use Rattle.std.specs.Option.{option_and_then}
-use Rattle.std.proofs.lemmas.Bool.{cases_Bool}
 use Rattle.std.proofs.lemmas.List.{take_all}
 use Rattle.std.proofs.lemmas.Option.{slice_get-map}
 use Rattle.sop_fixed.specs.declared.vec3.Vec3.{Vec3}
@@ -12,18 +10,16 @@ use Rattle.sop_model.specs.declared.geo.Geo.{Geo}
 use Rattle.sop_model.specs.declared.geo.Row.{Row}
 use Rattle.sop_model.specs.declared.geo.Corner.{Corner}
 use Rattle.sop_model.specs.declared.geo.Primitive.{Primitive}
-use Rattle.sop_model.specs.declared.value.Value.{Value}
 use Rattle.sop_model.specs.declared.value.Value.TheVariants as value
 use Rattle.sop_model.specs.Limits.{most_groups}
 use Rattle.sop_model.specs.Values.{zero_vector}
 use Rattle.sop_model.specs.Vertices.{size_of, corners_of}
 use Rattle.sop_model.specs.Merge.{first_names}
 use Rattle.sop_model.specs.Geometry.{IsGood, Fits, rows_of}
-use Rattle.geo_text.specs.declared.obj_writer.Parts.{Parts}
 use Rattle.geo_text.specs.declared.taker.Attributes.{Attributes}
 use Rattle.geo_text.specs.ObjLines.{is_filled}
 use Rattle.geo_text.specs.ObjTaking.{value_if, point_row, begun, vertex_taken}
-use Rattle.geo_text.specs.ObjMeaning.{Shaped, vector_at, vertex_of, prim_of, group_names, geo_from, geo_of, meaning, attributes_of}
+use Rattle.geo_text.specs.ObjMeaning.{vector_at, vertex_of, prim_of, group_names, meaning}
 use Rattle.geo_text.specs.ObjText.{vector_head, vector_under, parts_of, groups_of, text_of}
 use Rattle.geo_text.specs.ObjPieces.{place_written, vectors_under, number_if, named_written}
 use Rattle.geo_text.specs.Carried.{AreReal, head_where, value_where, normal_where, texture_of, normal_of, carried_corner, carried_prim, carried_point, used_groups, carried}

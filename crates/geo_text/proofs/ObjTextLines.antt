@@ -1,11 +1,10 @@
 -- The text of a geometry is made of lines of words.
-use Rattle.std.proofs.Common.{◌≡◌, ℕ, ◌+◌, List, [], ◌∷◌, ◌++◌, length, map, append_assoc, append-nil, refl, sym, ap, ◌∙◌, subst, Option, Some, None, Bool, true, false, inl, inr, ◌⊎◌}
+use Rattle.std.proofs.Common.{◌≡◌, ℕ, ◌+◌, List, [], ◌∷◌, ◌++◌, map, append_assoc, append-nil, refl, sym, ap, ◌∙◌, Option, Some, None, Bool, inl, inr}
 use Rattle.std.specs.Prelude.{codes, decimal, if◌then◌else◌}
 use Rattle.std.specs.List.{flat_map}
 use Rattle.std.proofs.lemmas.Bool.{cases_Bool}
 use Rattle.std.proofs.lemmas.Grind.{flat_map-append}
 use Rattle.sop_fixed.specs.declared.vec3.Vec3.{Vec3}
-use Rattle.sop_fixed.specs.Numerals.{decimal_of}
 use Rattle.sop_model.specs.declared.class.Class.TheVariants.{Vertex}
 use Rattle.sop_model.specs.declared.geo.Geo.{Geo}
 use Rattle.sop_model.specs.declared.geo.Row.{Row}
@@ -15,7 +14,7 @@ use Rattle.sop_model.specs.Vertices.{size_of}
 use Rattle.sop_model.specs.Places.{place_of}
 use Rattle.sop_model.specs.Geometry.{rows_of}
 use Rattle.geo_text.specs.declared.obj_writer.Parts.{Parts}
-use Rattle.geo_text.specs.ObjText.{vector_head, vector_under, vector_text, colour_text, point_line, vector_lines, points_text, textures_text, normals_text, parts_text, references_text, parts_of, shape_line, same_flags, groups_of, groups_line, change_of_groups, prims_text, no_flags, text_of}
+use Rattle.geo_text.specs.ObjText.{vector_head, vector_under, vector_text, colour_text, point_line, vector_lines, points_text, textures_text, normals_text, parts_text, references_text, parts_of, shape_line, same_flags, groups_of, change_of_groups, prims_text, no_flags, text_of}
 use Rattle.geo_text.specs.ObjWords.{words_text, line_text, lines_text, vector_words, colour_words, point_words, vectors_written, references_words, shape_words, change_words, prims_words, lines_written}
 
 abbrev spaced : List ℕ → List ℕ

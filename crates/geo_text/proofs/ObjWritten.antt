@@ -1,14 +1,14 @@
 -- A text that is made of lines of plain words has these lines and these words.
-use Rattle.std.proofs.Common.{◌≡◌, ℕ, ◌+◌, List, [], ◌∷◌, ◌++◌, length, map, append_assoc, append-nil, refl, sym, ap, ◌∙◌, subst, arith, Bool, true, false, not, inl, inr, ◌⊎◌}
-use Rattle.std.specs.Prelude.{◌&&◌, ◌||◌, ◌==◌, filter, if◌then◌else◌}
-use Rattle.std.specs.List.{list_all, slice_split, onto_first, flat_map}
-use Rattle.std.proofs.lemmas.Bool.{cases_Bool, and_parts, and_from}
+use Rattle.std.proofs.Common.{◌≡◌, ℕ, ◌+◌, List, [], ◌∷◌, ◌++◌, map, append_assoc, refl, ap, ◌∙◌, arith, Bool, true, false, not}
+use Rattle.std.specs.Prelude.{◌&&◌, ◌==◌, filter}
+use Rattle.std.specs.List.{list_all, slice_split, onto_first}
+use Rattle.std.proofs.lemmas.Bool.{and_parts, and_from}
 use Rattle.std.proofs.lemmas.Bool.Decides.{nat_tests}
 use Rattle.geo_text.specs.ObjLines.{joined, joint, joints_in, is_filled, is_blank, is_comment, before_comment, words_of, numbered}
 use Rattle.geo_text.specs.ObjStatements.{statement_of}
 use Rattle.geo_text.specs.ObjMeaning.{Said, said_by}
-use Rattle.geo_text.specs.ObjScan.{is_line_feed, ends_word}
-use Rattle.geo_text.specs.ObjWords.{words_text, line_text, lines_text, is_plain_byte, is_plain_word, are_plain_words}
+use Rattle.geo_text.specs.ObjScan.{is_line_feed}
+use Rattle.geo_text.specs.ObjWords.{words_text, lines_text, is_plain_byte, is_plain_word, are_plain_words}
 
 not_false : (b : Bool) → not b ≡ true → b ≡ false
 not_false true h = cc

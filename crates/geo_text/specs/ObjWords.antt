@@ -1,5 +1,5 @@
 -- Texts that are made of lines of words.
-use Rattle.std.specs.Prelude.{ℕ, ◌+◌, Bool, true, false, ◌&&◌, not, ◌==◌, nat_lt, if◌then◌else◌, List, [], ◌∷◌, ◌++◌, map, Option, None, Some, codes, decimal}
+use Rattle.std.specs.Prelude.{ℕ, ◌+◌, Bool, false, ◌&&◌, not, ◌==◌, nat_lt, if◌then◌else◌, List, [], ◌∷◌, ◌++◌, map, Option, None, Some, codes, decimal}
 use Rattle.std.specs.List.{list_all, flat_map}
 use Rattle.sop_fixed.specs.Numerals.{decimal_of}
 use Rattle.sop_fixed.specs.declared.vec3.Vec3.{Vec3}
