@@ -19,6 +19,9 @@ pub mod ObjReadBack
 pub mod ObjGives
 pub mod ObjRoundTrip
 pub mod ObjShapesBack
+pub mod ObjBack
+pub mod ObjPigeon
+pub mod ObjPrimsBack
 pub mod ObjUnrefused
 pub mod ObjVectors
 pub mod ObjNames

@@ -247,7 +247,7 @@ settled_same names (x ∷ more) h =
     ap (λ n. names_into n more) same ∙ settled_same names more parts.1
 
 -- ---- the first names of all
-other_stays : (names : Names) (x y : List ℕ) → bytes_eq y x ≡ false → is_among (filter (λ k. not (bytes_eq y k)) names) x ≡ is_among names x
+pub other_stays : (names : Names) (x y : List ℕ) → bytes_eq y x ≡ false → is_among (filter (λ k. not (bytes_eq y k)) names) x ≡ is_among names x
 other_stays [] x y h = refl
 other_stays (z ∷ names) x y h =
     elim (cases_Bool (bytes_eq y z)) [

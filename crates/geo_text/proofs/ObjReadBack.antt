@@ -1,6 +1,6 @@
 -- What the words of a text that is written say.
-use Rattle.std.proofs.Common.{◌≡◌, ℕ, zero, suc, ◌+◌, ◌^◌, ◌<◌, ◌≤◌, List, [], ◌∷◌, ◌++◌, length, map, take, append_assoc, append-nil, refl, sym, ap, ◌∙◌, subst, arith, rules, Option, Some, None, Bool, true, false, not, Ok, ℤ, unsigned_abs}
-use Rattle.std.specs.Prelude.{◌&&◌, ◌||◌, ◌==◌, nat_lt, nat_le, All, codes, decimal, if◌then◌else◌, option_map}
+use Rattle.std.proofs.Common.{◌≡◌, ℕ, ◌^◌, ◌<◌, ◌≤◌, List, [], ◌∷◌, ◌++◌, length, map, take, append_assoc, append-nil, refl, ap, ◌∙◌, arith, rules, Option, Some, None, Bool, true, false}
+use Rattle.std.specs.Prelude.{◌&&◌, ◌==◌, nat_lt, nat_le, codes, decimal, if◌then◌else◌, option_map}
 use Rattle.std.specs.List.{list_all, slice_split, onto_first}
 use Rattle.std.specs.Char.{is_ascii_digit}
 use Rattle.std.proofs.lemmas.Bool.{and_parts, and_from}
@@ -9,7 +9,7 @@ use Rattle.std.proofs.lemmas.List.{take_all}
 use Rattle.std.proofs.lemmas.Fmt.{digits_decimal, digits_value-decimal, decimal_nonempty}
 use Rattle.std.proofs.lemmas.Str.Parse.{IsNumeralModel, numerals_by_weight}
 use Rattle.sop_fixed.specs.declared.vec3.Vec3.{Vec3}
-use Rattle.sop_fixed.specs.Numerals.{number_of, is_sign, is_some_digits, after_sign, has_minus, value_of, decimal_of}
+use Rattle.sop_fixed.specs.Numerals.{number_of, is_sign, is_some_digits, after_sign, decimal_of}
 use Rattle.sop_fixed.proofs.RoundTrip.{reads_back}
 use Rattle.sop_model.specs.declared.geo.Row.{Row}
 use Rattle.sop_model.specs.Limits.{most_name_bytes}
@@ -17,9 +17,9 @@ use Rattle.sop_model.specs.Names.{is_name, starts_name, continues_name}
 use Rattle.sop_model.specs.Places.{place_of}
 use Rattle.geo_text.specs.declared.obj_writer.Parts.{Parts}
 use Rattle.geo_text.specs.ObjLines.{is_filled}
-use Rattle.geo_text.specs.ObjStatements.{Part, Absent, Ahead, Back, Wrong, Reference, Place, Statement, Point, Texture, Normal, Groups, vector_of, vector_in, place_in, place_with, counted, part_of, reference_of, reference_from, without_empty_end, mended, mended_byte, with_start, statement_of}
+use Rattle.geo_text.specs.ObjStatements.{Part, Absent, Ahead, Wrong, Point, Texture, Normal, vector_in, place_with, counted, part_of, reference_of, reference_from, without_empty_end, mended, mended_byte, with_start, statement_of}
 use Rattle.geo_text.specs.ObjText.{parts_text, vector_under}
-use Rattle.geo_text.specs.ObjWords.{vector_words, colour_words, point_words}
+use Rattle.geo_text.specs.ObjWords.{vector_words, point_words}
 use Rattle.geo_text.specs.Carried.{IsRealVector}
 
 own : IsNumeralModel (λ ds. list_all is_ascii_digit ds ≡ true) number_of

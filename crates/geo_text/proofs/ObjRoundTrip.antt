@@ -1,11 +1,9 @@
 -- The text of a geometry means what it carries.
-use Rattle.std.proofs.Common.{◌≡◌, ℕ, zero, suc, ◌+◌, ◌-◌, ◌^◌, ◌<◌, ◌≤◌, List, [], ◌∷◌, ◌++◌, length, map, append_assoc, append-nil, refl, sym, ap, ◌∙◌, subst, arith, Option, Some, None, Bool, true, false, not, Result, Ok, Err, inl, inr, ◌⊎◌, length-append}
-use Rattle.std.specs.Prelude.{◌&&◌, ◌==◌, nat_lt, All, codes, decimal, if◌then◌else◌, is_some}
-use Rattle.std.specs.List.{list_all, items_where_true, slice_split}
-use Rattle.std.proofs.lemmas.Bool.{cases_Bool, and_parts, and_from}
-use Rattle.std.proofs.lemmas.Bool.Decides.{nat_tests}
+use Rattle.std.proofs.Common.{◌≡◌, ℕ, suc, ◌+◌, ◌<◌, ◌≤◌, List, [], ◌∷◌, ◌++◌, length, map, append_assoc, refl, ap, ◌∙◌, arith, Option, Some, None, Bool, true, false, length-append}
+use Rattle.std.specs.Prelude.{All, codes, decimal, if◌then◌else◌, is_some}
+use Rattle.std.specs.List.{list_all}
+use Rattle.std.proofs.lemmas.Bool.{and_parts, and_from}
 use Rattle.std.proofs.lemmas.List.{length-map}
-use Rattle.std.proofs.lemmas.List.Folds.{list_all-append}
 use Rattle.std.proofs.lemmas.List.Elements.{All-nil, All-cons, All-head, All-tail, All-weaker}
 use Rattle.sop_model.proofs.LimitsLemmas.{fits_within, within_points, within_vertices}
 use Rattle.sop_fixed.specs.declared.vec3.Vec3.{Vec3}
@@ -20,16 +18,16 @@ use Rattle.sop_model.specs.Places.{place_of}
 use Rattle.sop_model.specs.Geometry.{IsGood, Fits, rows_of}
 use Rattle.geo_text.specs.declared.obj_writer.Parts.{Parts}
 use Rattle.geo_text.specs.declared.reference.Counts.{Counts}
-use Rattle.geo_text.specs.ObjStatements.{Point, Texture, Normal, statement_of}
-use Rattle.geo_text.specs.ObjMeaning.{Piece, PointPiece, TexturePiece, NormalPiece, ShapePiece, GroupsPiece, NoPiece, no_counts, piece_of, counted_in}
-use Rattle.geo_text.specs.ObjText.{vector_head, vector_under, parts_text, parts_of, same_flags, groups_of, no_flags, text_of}
-use Rattle.geo_text.specs.ObjWords.{words_text, lines_text, is_plain_byte, is_plain_word, are_plain_words, vector_words, colour_words, point_words, vectors_written, references_words, shape_words, change_words, prims_words, lines_written}
-use Rattle.geo_text.specs.ObjPieces.{place_written, vectors_under, change_pieces, prims_pieces, named_written, pieces_written}
-use Rattle.geo_text.specs.Carried.{IsRealVector, IsRealValue, AreReal}
+use Rattle.geo_text.specs.ObjStatements.{Point}
+use Rattle.geo_text.specs.ObjMeaning.{Piece, PointPiece, TexturePiece, NormalPiece, ShapePiece, GroupsPiece, no_counts, piece_of, counted_in}
+use Rattle.geo_text.specs.ObjText.{vector_head, vector_under, parts_text, parts_of, same_flags, groups_of, no_flags}
+use Rattle.geo_text.specs.ObjWords.{is_plain_word, are_plain_words, vector_words, colour_words, point_words, vectors_written, references_words, shape_words, change_words, prims_words, lines_written}
+use Rattle.geo_text.specs.ObjPieces.{place_written, vectors_under, prims_pieces, named_written, pieces_written}
+use Rattle.geo_text.specs.Carried.{IsRealValue, AreReal}
 use Rattle.geo_text.proofs.ObjWritten.{are_plain_lines}
 use Rattle.geo_text.proofs.ObjPlain.{vector_plain, real_in, reference_plain, chosen_plain}
 use Rattle.geo_text.proofs.ObjReadBack.{point_back, texture_back, normal_back}
-use Rattle.geo_text.proofs.ObjGives.{Gives, AllGive, give_append, counted_by, counts_in, Suits, prims_given}
+use Rattle.geo_text.proofs.ObjGives.{AllGive, give_append, counted_by, counts_in, Suits, prims_given}
 
 abbrev IsRealRow : Row → Type 0
 IsRealRow row = All IsRealValue row.values

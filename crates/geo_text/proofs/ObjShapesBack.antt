@@ -1,24 +1,19 @@
 -- The primitives of a text that is written, and that it passes no limit.
-use Rattle.std.proofs.Common.{◌≡◌, ℕ, suc, ◌+◌, ◌≤◌, ◌<◌, List, [], ◌∷◌, ◌++◌, length, map, append_assoc, length-append, refl, sym, ap, ◌∙◌, subst, arith, Bool, true, false, Ok, inl, inr, ◌⊎◌}
-use Rattle.std.specs.Prelude.{◌&&◌, ◌||◌, nat_lt, not, sum_by, if◌then◌else◌, codes}
+use Rattle.std.proofs.Common.{◌≡◌, ℕ, suc, ◌+◌, List, [], ◌∷◌, ◌++◌, length, map, append_assoc, length-append, refl, sym, ap, ◌∙◌, arith, Bool, true, false, inl, inr}
+use Rattle.std.specs.Prelude.{sum_by, codes}
 use Rattle.std.specs.List.{items_where_true}
 use Rattle.std.proofs.lemmas.Bool.{cases_Bool, and_parts}
-use Rattle.std.proofs.lemmas.Bool.Decides.{nat_tests}
 use Rattle.std.proofs.lemmas.List.Sums.{sum_by-cons}
-use Rattle.sop_fixed.specs.declared.vec3.Vec3.{Vec3}
 use Rattle.sop_model.specs.declared.class.Class.TheVariants.{Vertex}
 use Rattle.sop_model.specs.declared.geo.Geo.{Geo}
 use Rattle.sop_model.specs.declared.geo.Corner.{Corner}
 use Rattle.sop_model.specs.declared.geo.Primitive.{Primitive}
-use Rattle.sop_model.specs.Limits.{most_points, most_prims, most_vertices}
 use Rattle.sop_model.specs.Vertices.{size_of, corners_of}
-use Rattle.sop_model.specs.Geometry.{IsGood, Fits, rows_of}
-use Rattle.sop_model.proofs.LimitsLemmas.{fits_within, within_points, within_prims, within_vertices}
+use Rattle.sop_model.specs.Geometry.{rows_of}
 use Rattle.geo_text.specs.declared.obj_writer.Parts.{Parts}
 use Rattle.geo_text.specs.declared.reference.Named.{Named}
-use Rattle.geo_text.specs.ObjLines.{lines_of}
-use Rattle.geo_text.specs.ObjMeaning.{Piece, PointPiece, TexturePiece, NormalPiece, ShapePiece, GroupsPiece, NoPiece, Shaped, Said, said_by, no_counts, counts_of, shapes_under}
-use Rattle.geo_text.specs.ObjText.{vector_head, parts_of, same_flag, same_flags, groups_of, no_flags, text_of}
+use Rattle.geo_text.specs.ObjMeaning.{Piece, PointPiece, TexturePiece, NormalPiece, ShapePiece, NoPiece, Shaped, shapes_under}
+use Rattle.geo_text.specs.ObjText.{vector_head, parts_of, same_flag, same_flags, groups_of, no_flags}
 use Rattle.geo_text.specs.ObjPieces.{place_written, vectors_under, named_written, prims_pieces, pieces_written}
 
 abbrev pub shapes_written : Geo → ℕ → List Primitive → List Shaped

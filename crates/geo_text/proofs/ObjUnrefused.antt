@@ -1,12 +1,11 @@
 -- No line of the text of a geometry is refused: its lines add the pieces that are written.
-use Rattle.std.proofs.Common.{◌≡◌, ℕ, ◌+◌, ◌≤◌, List, [], ◌∷◌, ◌++◌, length, map, refl, sym, ap, ◌∙◌, subst, arith, Bool, true, false, Ok}
-use Rattle.std.specs.Prelude.{◌&&◌, ◌||◌, ◌==◌, nat_lt, sum_by, if◌then◌else◌}
+use Rattle.std.proofs.Common.{◌≡◌, ℕ, ◌≤◌, List, [], ◌∷◌, ◌++◌, length, map, refl, sym, ap, ◌∙◌, subst, arith, true, false, Ok}
+use Rattle.std.specs.Prelude.{◌||◌, ◌==◌, nat_lt, sum_by}
 use Rattle.std.specs.List.{list_all, slice_split}
 use Rattle.std.proofs.lemmas.Bool.{and_parts}
 use Rattle.std.proofs.lemmas.Bool.Decides.{nat_tests}
 use Rattle.sop_model.specs.declared.geo.Geo.{Geo}
 use Rattle.sop_model.specs.Limits.{most_points, most_prims, most_vertices}
-use Rattle.sop_model.specs.Vertices.{corners_of}
 use Rattle.sop_model.specs.Geometry.{IsGood, Fits}
 use Rattle.sop_model.proofs.LimitsLemmas.{fits_within, within_points, within_prims, within_vertices}
 use Rattle.geo_text.specs.ObjLines.{joined, numbered, without_mark, lines_of}

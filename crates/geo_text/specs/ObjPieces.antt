@@ -1,5 +1,5 @@
 -- The pieces that the text of a geometry gives, as the proof of its round trip speaks of them.
-use Rattle.std.specs.Prelude.{ℕ, ◌+◌, ◌&&◌, Bool, true, false, if◌then◌else◌, List, [], ◌∷◌, ◌++◌, map, Option, None, Some, option_map, codes}
+use Rattle.std.specs.Prelude.{ℕ, ◌+◌, Bool, true, false, if◌then◌else◌, List, [], ◌∷◌, ◌++◌, map, Option, None, Some, option_map, codes}
 use Rattle.sop_fixed.specs.declared.vec3.Vec3.{Vec3}
 use Rattle.sop_model.specs.declared.class.Class.TheVariants.{Vertex}
 use Rattle.sop_model.specs.declared.geo.Geo.{Geo}
@@ -12,7 +12,7 @@ use Rattle.sop_model.specs.Geometry.{rows_of}
 use Rattle.geo_text.specs.declared.obj_writer.Parts.{Parts}
 use Rattle.geo_text.specs.declared.reference.Named.{Named}
 use Rattle.geo_text.specs.ObjStatements.{Place}
-use Rattle.geo_text.specs.ObjMeaning.{Piece, PointPiece, TexturePiece, NormalPiece, ShapePiece, GroupsPiece, NoPiece, Shaped}
+use Rattle.geo_text.specs.ObjMeaning.{Piece, PointPiece, TexturePiece, NormalPiece, ShapePiece, GroupsPiece}
 use Rattle.geo_text.specs.ObjText.{vector_head, vector_under, parts_of, same_flags, groups_of, no_flags}
 
 abbrev pub place_written : Option ℕ → Row → Place

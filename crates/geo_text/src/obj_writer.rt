@@ -1,9 +1,11 @@
 //! Geometries written as OBJ texts.
-ghost use Rattle.std.specs.Prelude.{◌≡◌, ◌<◌, ◌≤◌, ◌+◌, ◌++◌, ◌&&◌, [], Option, Some, None, IfOk, OnOk, IfSome, length, take, drop, codes, decimal, if◌then◌else◌, slice_index_or, is_some, not, false, true};
+ghost use Rattle.std.specs.Prelude.{◌≡◌, ◌<◌, ◌≤◌, ◌+◌, ◌++◌, ◌&&◌, [], Ok, Option, Some, None, IfOk, OnOk, IfSome, length, take, drop, codes, decimal, if◌then◌else◌, slice_index_or, is_some, not, false, true};
 ghost use Rattle.std.specs.List.{flat_map, items_where_true};
-ghost use Rattle.sop_model.specs.Geometry.{IsReadable, heads_of, rows_of, count_of, empty_row};
+ghost use Rattle.sop_model.specs.Geometry.{IsReadable, IsGood, Fits, heads_of, rows_of, count_of, empty_row};
 ghost use Rattle.sop_model.specs.Vertices.{corners_of, first_vertex_in, size_of};
 ghost use Rattle.sop_model.specs.Rows.{no_prim};
+ghost use Rattle.geo_text.specs.ObjMeaning.{meaning};
+ghost use Rattle.geo_text.specs.Carried.{AreReal, carried};
 ghost use Rattle.geo_text.specs.ObjText as written;
 ghost use Rattle.geo_text.specs.ObjFlags.{flags_before, name_if};
 ghost use Rattle.geo_text.specs.ObjText.{text_of, vector_text, vector_under, colour_text, point_line, vector_lines, points_text, parts_text, references_text, closed_parts, shape_line, same_flags, groups_line, groups_of, change_of_groups, prims_text, no_flags};
@@ -334,10 +336,7 @@ fn write_prims<V: GeoView>(view: &V, text: &mut Vec<u8>) -> Result<(), AllocErro
     Ok(())
 }
 
-/// The OBJ text of a geometry: a line `v` for each point, with its colour where points have a vector `Cd`; lines `vt` and `vn` for
-/// each vertex, where vertices have a vector `uv` or `N`; and a line `f` or `l` for each primitive, with lines `g` where the groups
-/// change. The time is linear in the values, flags and vertices of the geometry.
-pub fn obj_text<V: GeoView>(alloc: Global, view: &V) -> Result<Vec<u8>, AllocError>
+fn whole_text<V: GeoView>(alloc: Global, view: &V) -> Result<Vec<u8>, AllocError>
     requires { IsReadable (V.geo view.now) }
     ensures { IfOk result (λ text. text.items ≡ text_of (V.geo view.now)) }
 {
@@ -348,5 +347,18 @@ pub fn obj_text<V: GeoView>(alloc: Global, view: &V) -> Result<Vec<u8>, AllocErr
     let normal = vector_head(view, Class::Vertex, "N");
     write_vectors(view, b"vn", normal, &mut text)?;
     write_prims(view, &mut text)?;
+    Ok(text)
+}
+
+/// The OBJ text of a geometry: a line `v` for each point, with its colour where points have a vector `Cd`; lines `vt` and `vn` for
+/// each vertex, where vertices have a vector `uv` or `N`; and a line `f` or `l` for each primitive, with lines `g` where the groups
+/// change. Read again, the text of a geometry within the limits means what it carries. The time is linear in the values, flags and
+/// vertices of the geometry.
+pub fn obj_text<V: GeoView>(alloc: Global, view: &V) -> Result<Vec<u8>, AllocError>
+    requires { IsReadable (V.geo view.now) }
+    ensures written { IfOk result (λ text. text.items ≡ text_of (V.geo view.now)) }
+    ensures back { IfOk result (λ text. IsGood (V.geo view.now) → Fits (V.geo view.now) → AreReal (V.geo view.now) → meaning text.items ≡ Ok (carried (V.geo view.now))) }
+{
+    let text = whole_text(alloc, view)?;
     Ok(text)
 }

@@ -1,0 +1,9 @@
+use Rattle.std.proofs.Common.{◌≡◌, Ok, sym, subst}
+use Rattle.geo_text.specs.ObjMeaning.{meaning}
+use Rattle.geo_text.specs.Carried.{carried}
+use Rattle.geo_text.proofs.ObjPrimsBack.{round_trip}
+use Rattle.geo_text.proofs.obj_writer.obj_text.Goals as goal
+
+pub returns-clause-back : goal.returns-clause-back
+returns-clause-back g c =
+    λ good fits real. subst (λ t. meaning t ≡ Ok (carried (g.V.GeoView.geo c.args.view.now))) (sym c.in_ok-text.ensures) (round_trip (g.V.GeoView.geo c.args.view.now) good fits real)
