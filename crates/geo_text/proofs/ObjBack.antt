@@ -68,7 +68,7 @@ places_back g =
     ap (filter_map place_of) (in_blocks g)
     ∙ taken_all place_of (λ row. PointPiece (place_written colour row)) (place_written colour) g.points (map TexturePiece textures ++ (map NormalPiece normals ++ prims)) (λ row. refl)
     ∙ ap (λ l. map (place_written colour) g.points ++ l) (taken_none place_of TexturePiece textures (map NormalPiece normals ++ prims) (λ v. refl)
-        ∙ taken_none place_of NormalPiece normals prims (λ v. refl) ∙ prims_none place_of g 0 (no_flags g) g.prims (λ c n. refl) (λ n. refl) refl)
+    ∙ taken_none place_of NormalPiece normals prims (λ v. refl) ∙ prims_none place_of g 0 (no_flags g) g.prims (λ c n. refl) (λ n. refl) refl)
     ∙ append-nil (map (place_written colour) g.points)
 
 pub textures_back : (g : Geo) → filter_map texture_of (pieces_written g ++ NoPiece ∷ []) ≡ vectors_under (vector_head g.vertex (codes "uv")) (rows_of g Vertex)

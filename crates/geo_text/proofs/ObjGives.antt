@@ -12,7 +12,7 @@ use Rattle.sop_model.specs.declared.geo.Primitive.{Primitive}
 use Rattle.sop_model.specs.Vertices.{size_of, corners_of}
 use Rattle.geo_text.specs.declared.obj_writer.Parts.{Parts}
 use Rattle.geo_text.specs.declared.reference.Counts.{Counts}
-use Rattle.geo_text.specs.ObjStatements.{Ahead, Shape, reference_of, statement_of} 
+use Rattle.geo_text.specs.ObjStatements.{Ahead, Shape, reference_of, statement_of}
 use Rattle.geo_text.specs.ObjMeaning.{Piece, PointPiece, TexturePiece, NormalPiece, ShapePiece, GroupsPiece, NoPiece, needed, optional, named_by, each_of, put_first, map_ok, piece_of, pieces_of, counted_in, counts_of, no_counts}
 use Rattle.geo_text.specs.ObjText.{vector_head, parts_of, same_flags, groups_of}
 use Rattle.geo_text.specs.ObjWords.{references_words, shape_words, change_words, prims_words}
@@ -149,7 +149,7 @@ prims_given g whole before flags (p ∷ prims) suits some all =
     let own = All-front (λ (c : Corner). c.point < whole.points) p.corners (corners_of prims) all in
     let others = All-back (λ (c : Corner). c.point < whole.points) p.corners (corners_of prims) all in
     let first = shape_given g whole before p (All-head (λ p. 0 < size_of p) p prims some) suits.points (omega (arith, suits.few, long)) own
-      (λ e. let h = suits.textures e in omega (arith, h, long)) (λ e. let h = suits.normals (and_first (is_some (vector_head g.vertex (codes "N"))) p.closed e) in omega (arith, h, long)) in
+    (λ e. let h = suits.textures e in omega (arith, h, long)) (λ e. let h = suits.normals (and_first (is_some (vector_head g.vertex (codes "N"))) p.closed e) in omega (arith, h, long)) in
     let same : before + size_of p + length (corners_of prims) ≡ before + length (corners_of (p ∷ prims)) = omega (arith, long) in
     let rest = prims_given g whole (before + size_of p) p.row.flags prims (subst (Suits g whole) (sym same) suits) (All-tail (λ p. 0 < size_of p) p prims some) others in
     give_append whole (change_words g flags p) (change_pieces g flags p) (shape_words g before p ∷ prims_words g (before + size_of p) p.row.flags prims)
@@ -158,6 +158,7 @@ prims_given g whole before flags (p ∷ prims) suits some all =
     All-front : (P : Corner → Type 0) (xs ys : List Corner) → All P (xs ++ ys) → All P xs
     All-front P [] ys all = All-nil P
     All-front P (x ∷ xs) ys all = All-cons P x xs (All-head P x (xs ++ ys) all) (All-front P xs ys (All-tail P x (xs ++ ys) all))
+
     All-back : (P : Corner → Type 0) (xs ys : List Corner) → All P (xs ++ ys) → All P ys
     All-back P [] ys all = all
     All-back P (x ∷ xs) ys all = All-back P xs ys (All-tail P x (xs ++ ys) all)
