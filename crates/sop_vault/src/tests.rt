@@ -1,26 +1,25 @@
-//! What no clause says: that the calls succeed with memory at hand, and in which order a call looks for what it needs.
+//! What no clause says: that the calls succeed with memory at hand.
 mod calls;
 mod looks;
 mod wants;
 
 use crate::{Vault, VaultEnd};
 use calls::{
-    add_attr, add_group, add_points, add_prim, add_vertex, double, keep_without, new_key, put_back,
-    reverse, set_member, set_x, share,
+    add_attr, add_group, add_prim, add_vertex, double, set_member, set_x, share, turned,
+    with_points,
 };
 use looks::x_of;
 use sop_fixed::Int;
 use sop_model::{Class, GeoView, Value};
 use sop_pages::Cell;
 use std::test::Fail;
-use wants::call_each;
+use wants::{call_each, take_and_adopt};
 
 #[test]
 fn a_share_keeps_what_it_had(rt: HostRuntime) -> Result<(), Fail> {
     let mut vault = Vault::new(rt.alloc());
-    let first = vault.empty()?;
-    add_points(&mut vault, first, 2)?;
-    let second = vault.share(first)?;
+    let first = with_points(&mut vault, 2)?;
+    let second = share(&mut vault, first)?;
     set_x(&mut vault, second, 0, 5)?;
     assert_eq!(rt; x_of(&vault.view(first), 0), Some(0));
     assert_eq!(rt; x_of(&vault.view(second), 0), Some(5));
@@ -33,8 +32,7 @@ fn a_share_keeps_what_it_had(rt: HostRuntime) -> Result<(), Fail> {
 #[test]
 fn refusals_are_told(rt: HostRuntime) -> Result<(), Fail> {
     let mut vault = Vault::new(rt.alloc());
-    let key = vault.empty()?;
-    add_points(&mut vault, key, 2)?;
+    let key = with_points(&mut vault, 2)?;
     assert_eq!(rt; add_attr(&mut vault, key, "a"), Ok(()));
     assert_eq!(rt; add_attr(&mut vault, key, "a"), Err(VaultEnd::Exists));
     assert_eq!(rt; add_group(&mut vault, key, "g"), Ok(()));
@@ -54,13 +52,9 @@ fn refusals_are_told(rt: HostRuntime) -> Result<(), Fail> {
 #[test]
 fn points_go_and_turn_and_come(rt: HostRuntime) -> Result<(), Fail> {
     let mut vault = Vault::new(rt.alloc());
-    let key = vault.empty()?;
-    add_points(&mut vault, key, 3)?;
-    set_x(&mut vault, key, 2, 5)?;
-    keep_without(rt.alloc(), &mut vault, key, 1)?;
-    reverse(rt.alloc(), &mut vault, key)?;
+    let key = turned(rt.alloc(), &mut vault, 5)?;
     double(&mut vault, key)?;
-    put_back(&mut vault, key)?;
+    take_and_adopt(&rt, &mut vault, key)?;
     let view = vault.view(key);
     for (point, x) in [Some(5), Some(0), Some(5), Some(0), None]
         .iter()
@@ -76,9 +70,11 @@ fn points_go_and_turn_and_come(rt: HostRuntime) -> Result<(), Fail> {
 #[test]
 fn want_of_memory_leaves_all_as_it_was(rt: HostRuntime) -> Result<(), Fail> {
     let mut vault = Vault::new(rt.alloc());
-    let first = new_key(&mut vault)?;
+    let first = with_points(&mut vault, 0)?;
     call_each(&rt, rt.alloc(), &mut vault, first, first, "a")?;
+    take_and_adopt(&rt, &mut vault, first)?;
     let second = share(&mut vault, first)?;
     call_each(&rt, rt.alloc(), &mut vault, second, first, "b")?;
+    take_and_adopt(&rt, &mut vault, second)?;
     Ok(())
 }
