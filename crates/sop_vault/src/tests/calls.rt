@@ -1,5 +1,5 @@
 //! Calls of a vault, whose conditions are tested as they run. What is live stays live in each.
-ghost use Rattle.std.specs.Prelude.{◌≡◌, Some, IfOk, IsTrue, IsPermutation};
+ghost use Rattle.std.specs.Prelude.{◌≡◌, ◌≢◌, Some, IfOk, IsTrue, IsPermutation};
 ghost use Rattle.std.specs.List.{range_with_len};
 ghost use Rattle.sop_model.specs.declared.class.Class.TheVariants.{Prim};
 ghost use Rattle.sop_model.specs.declared.value.Kind.TheVariants.{Str};
@@ -19,18 +19,20 @@ use sop_rows::Marks;
 use sop_sheets::GeoRef;
 use std::alloc::{AllocError, Global};
 
-/// A key of the empty geometry.
-pub fn new_key(vault: &mut Vault<'_>) -> Result<GeoKey, VaultEnd>
+/// A new key of so many points.
+pub fn with_points(vault: &mut Vault<'_>, points: u32) -> Result<GeoKey, VaultEnd>
     ensures live { IfOk result (λ key. IsLive vault.new.geos key) }
     ensures stay { StayLive vault.old.geos vault.new.geos }
 {
     let key = vault.empty()?;
+    vault.add_points(key, points)?;
     Ok(key)
 }
 
 /// Another key of a geometry.
 pub fn share(vault: &mut Vault<'_>, key: GeoKey) -> Result<GeoKey, VaultEnd>
     requires { IsLive vault.old.geos key }
+    ensures other { IfOk result (λ new. new ≢ key) }
     ensures live { IfOk result (λ new. IsLive vault.new.geos new) }
     ensures stay { StayLive vault.old.geos vault.new.geos }
 {
@@ -38,6 +40,7 @@ pub fn share(vault: &mut Vault<'_>, key: GeoKey) -> Result<GeoKey, VaultEnd>
     Ok(new)
 }
 
+/// Adds points.
 pub fn add_points(vault: &mut Vault<'_>, key: GeoKey, more: u32) -> Result<(), VaultEnd>
     requires { IsLive vault.old.geos key }
     ensures { StayLive vault.old.geos vault.new.geos }
@@ -111,6 +114,7 @@ pub fn set_x(
     vault.set(key, Class::Point, 0, point, &Value::Vector(place))
 }
 
+/// Adds a closed primitive.
 pub fn add_prim(vault: &mut Vault<'_>, key: GeoKey, points: &[u32]) -> Result<(), VaultEnd>
     requires { IsLive vault.old.geos key }
     ensures { StayLive vault.old.geos vault.new.geos }
@@ -118,6 +122,7 @@ pub fn add_prim(vault: &mut Vault<'_>, key: GeoKey, points: &[u32]) -> Result<()
     vault.add_prim(key, true, points)
 }
 
+/// Adds a vertex to a primitive.
 pub fn add_vertex(vault: &mut Vault<'_>, key: GeoKey, prim: u32, point: u32) -> Result<(), VaultEnd>
     requires { IsLive vault.old.geos key }
     ensures { StayLive vault.old.geos vault.new.geos }
@@ -186,19 +191,16 @@ pub fn double(vault: &mut Vault<'_>, key: GeoKey) -> Result<(), VaultEnd>
     vault.append(key, key)
 }
 
-/// Takes the places of points out as pages, and puts these in again.
-pub fn put_back(vault: &mut Vault<'_>, key: GeoKey) -> Result<(), VaultEnd>
-    requires { IsLive vault.old.geos key }
-    ensures { StayLive vault.old.geos vault.new.geos }
+/// A new key of two points, the first of which is moved: of three the second one went, and the other two changed places.
+pub fn turned(alloc: Global, vault: &mut Vault<'_>, millionths: i64) -> Result<GeoKey, VaultEnd>
+    ensures live { IfOk result (λ key. IsLive vault.new.geos key) }
+    ensures stay { StayLive vault.old.geos vault.new.geos }
 {
-    if !has_place(&vault.view(key), 0) {
-        return Err(VaultEnd::NoPoint);
-    }
-    let pages = vault.take_loose(key, Class::Point, 0)?;
-    match vault.adopt(key, Class::Point, 0, pages) {
-        Ok(()) => Ok(()),
-        Err((_, AllocError)) => Err(VaultEnd::Memory),
-    }
+    let key = with_points(vault, 3)?;
+    set_x(vault, key, 2, millionths)?;
+    keep_without(alloc, vault, key, 1)?;
+    reverse(alloc, vault, key)?;
+    Ok(key)
 }
 
 /// The cell of a text.

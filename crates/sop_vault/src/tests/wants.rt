@@ -6,10 +6,11 @@ ghost use Rattle.sop_vault.specs.Living.{StayLive};
 
 use super::calls::{
     add_and_drop, add_attr, add_group, add_points, add_prim, add_vertex, cell_of, del_attr, double,
-    keep_without, put_back, reverse, set_member, set_text, set_x, share_and_drop,
+    keep_without, reverse, set_member, set_text, set_x, share_and_drop,
 };
-use super::looks::look_at;
+use super::looks::{has_place, look_at};
 use crate::{GeoKey, Vault, VaultEnd};
+use sop_model::Class;
 use sop_outside::Text;
 use std::alloc::Global;
 use std::process::Abort;
@@ -31,12 +32,11 @@ enum Call {
     Keep,
     Reorder,
     Append,
-    TakeAndAdopt,
     DelAttr,
 }
 
 /// The calls in an order in which each finds what it needs.
-const CALLS: [Call; 16] = [
+const CALLS: [Call; 15] = [
     Call::Empty,
     Call::Cell,
     Call::AddPoints,
@@ -51,7 +51,6 @@ const CALLS: [Call; 16] = [
     Call::Keep,
     Call::Reorder,
     Call::Append,
-    Call::TakeAndAdopt,
     Call::DelAttr,
 ];
 
@@ -82,6 +81,27 @@ pub fn call_each(
     Ok(())
 }
 
+/// Takes the places of points out as pages, and puts these in again. Each of both calls must leave all as it was where it is refused.
+pub fn take_and_adopt(rt: &impl Abort, vault: &mut Vault<'_>, key: GeoKey) -> Result<(), VaultEnd>
+    requires { IsLive vault.old.geos key }
+    ensures { StayLive vault.old.geos vault.new.geos }
+{
+    if !has_place(&vault.view(key), 0) {
+        return Err(VaultEnd::NoPoint);
+    }
+    let before = look_at(vault, key);
+    let Ok(pages) = vault.take_loose(key, Class::Point, 0) else {
+        assert_eq!(rt; look_at(vault, key), before);
+        return Err(VaultEnd::Memory);
+    };
+    let taken = look_at(vault, key);
+    if vault.adopt(key, Class::Point, 0, pages).is_err() {
+        assert_eq!(rt; look_at(vault, key), taken);
+        return Err(VaultEnd::Memory);
+    }
+    Ok(())
+}
+
 impl Call {
     fn make(
         self,
@@ -102,14 +122,13 @@ impl Call {
             Call::AddGroup => add_group(vault, key, name),
             Call::AddPrim => add_prim(vault, key, &[0, 1]),
             Call::AddVertices => add_vertex(vault, key, 0, 2),
-            Call::Set => set_x(vault, key, 1, 5),
+            Call::Set => set_x(vault, key, 2, 5),
             Call::SetText => set_text(alloc, vault, key),
-            Call::SetMember => set_member(vault, key, 1),
+            Call::SetMember => set_member(vault, key, 2),
             Call::Share => share_and_drop(vault, key),
             Call::Keep => keep_without(alloc, vault, key, 1),
             Call::Reorder => reverse(alloc, vault, key),
             Call::Append => double(vault, key),
-            Call::TakeAndAdopt => put_back(vault, key),
             Call::DelAttr => del_attr(vault, key, name),
         }
     }
