@@ -17,33 +17,33 @@ use wants::{call_each, take_and_adopt};
 
 #[test]
 fn a_share_keeps_what_it_had(rt: HostRuntime) -> Result<(), Fail> {
-    let mut store = Vault::new(rt.alloc());
-    let one = with_points(&mut store, 2)?;
-    let two = share(&mut store, one)?;
-    set_x(&mut store, two, 0, 5)?;
-    assert_eq!(rt; x_of(&store.view(one), 0), Some(0));
-    assert_eq!(rt; x_of(&store.view(two), 0), Some(5));
-    store.drop_geo(one);
-    store.drop_geo(two);
-    assert_eq!(rt; store.pages(), 0);
+    let mut vault = Vault::new(rt.alloc());
+    let first = with_points(&mut vault, 2)?;
+    let second = share(&mut vault, first)?;
+    set_x(&mut vault, second, 0, 5)?;
+    assert_eq!(rt; x_of(&vault.view(first), 0), Some(0));
+    assert_eq!(rt; x_of(&vault.view(second), 0), Some(5));
+    vault.drop_geo(first);
+    vault.drop_geo(second);
+    assert_eq!(rt; vault.pages(), 0);
     Ok(())
 }
 
 #[test]
 fn refusals_are_told(rt: HostRuntime) -> Result<(), Fail> {
-    let mut store = Vault::new(rt.alloc());
-    let place = with_points(&mut store, 2)?;
-    assert_eq!(rt; add_attr(&mut store, place, "a"), Ok(()));
-    assert_eq!(rt; add_attr(&mut store, place, "a"), Err(VaultEnd::Exists));
-    assert_eq!(rt; add_group(&mut store, place, "g"), Ok(()));
-    assert_eq!(rt; add_group(&mut store, place, "g"), Err(VaultEnd::Exists));
-    assert_eq!(rt; set_member(&mut store, place, 1), Ok(()));
-    assert_eq!(rt; add_prim(&mut store, place, &[7]), Err(VaultEnd::NoPoint));
-    assert_eq!(rt; add_prim(&mut store, place, &[]), Ok(()));
-    assert_eq!(rt; add_vertex(&mut store, place, 0, 1), Ok(()));
-    assert_eq!(rt; store.view(place).count(Class::Vertex), 1);
+    let mut vault = Vault::new(rt.alloc());
+    let key = with_points(&mut vault, 2)?;
+    assert_eq!(rt; add_attr(&mut vault, key, "a"), Ok(()));
+    assert_eq!(rt; add_attr(&mut vault, key, "a"), Err(VaultEnd::Exists));
+    assert_eq!(rt; add_group(&mut vault, key, "g"), Ok(()));
+    assert_eq!(rt; add_group(&mut vault, key, "g"), Err(VaultEnd::Exists));
+    assert_eq!(rt; set_member(&mut vault, key, 1), Ok(()));
+    assert_eq!(rt; add_prim(&mut vault, key, &[7]), Err(VaultEnd::NoPoint));
+    assert_eq!(rt; add_prim(&mut vault, key, &[]), Ok(()));
+    assert_eq!(rt; add_vertex(&mut vault, key, 0, 1), Ok(()));
+    assert_eq!(rt; vault.view(key).count(Class::Vertex), 1);
     assert_eq!(rt;
-        store.del_attr(place, Class::Prim, "b"),
+        vault.del_attr(key, Class::Prim, "b"),
         Err(VaultEnd::NoAttr)
     );
     Ok(())
@@ -51,11 +51,11 @@ fn refusals_are_told(rt: HostRuntime) -> Result<(), Fail> {
 
 #[test]
 fn points_go_and_turn_and_come(rt: HostRuntime) -> Result<(), Fail> {
-    let mut store = Vault::new(rt.alloc());
-    let place = turned(rt.alloc(), &mut store, 5)?;
-    double(&mut store, place)?;
-    take_and_adopt(&rt, &mut store, place)?;
-    let view = store.view(place);
+    let mut vault = Vault::new(rt.alloc());
+    let key = turned(rt.alloc(), &mut vault, 5)?;
+    double(&mut vault, key)?;
+    take_and_adopt(&rt, &mut vault, key)?;
+    let view = vault.view(key);
     for (point, x) in [Some(5), Some(0), Some(5), Some(0), None]
         .iter()
         .enumerate()
@@ -63,18 +63,18 @@ fn points_go_and_turn_and_come(rt: HostRuntime) -> Result<(), Fail> {
         assert_eq!(rt; x_of(&view, point as u32), *x);
     }
     let five = Int::of(5).expect(&rt, "in range");
-    assert_eq!(rt; store.cell(&Value::Int(five))?, Cell::Int(five));
+    assert_eq!(rt; vault.cell(&Value::Int(five))?, Cell::Int(five));
     Ok(())
 }
 
 #[test]
 fn want_of_memory_leaves_all_as_it_was(rt: HostRuntime) -> Result<(), Fail> {
-    let mut store = Vault::new(rt.alloc());
-    let one = with_points(&mut store, 0)?;
-    call_each(&rt, rt.alloc(), &mut store, one, one, "a")?;
-    take_and_adopt(&rt, &mut store, one)?;
-    let two = share(&mut store, one)?;
-    call_each(&rt, rt.alloc(), &mut store, two, one, "b")?;
-    take_and_adopt(&rt, &mut store, two)?;
+    let mut vault = Vault::new(rt.alloc());
+    let first = with_points(&mut vault, 0)?;
+    call_each(&rt, rt.alloc(), &mut vault, first, first, "a")?;
+    take_and_adopt(&rt, &mut vault, first)?;
+    let second = share(&mut vault, first)?;
+    call_each(&rt, rt.alloc(), &mut vault, second, first, "b")?;
+    take_and_adopt(&rt, &mut vault, second)?;
     Ok(())
 }
