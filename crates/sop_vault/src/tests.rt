@@ -5,10 +5,10 @@ mod wants;
 
 use crate::{Vault, VaultEnd};
 use calls::{
-    add_attr, add_group, add_prim, add_vertex, double, set_member, set_x, share, turned,
-    with_points,
+    add_attr, add_group, add_prim, add_vertex, double, set_member, set_text, set_x, share, turned,
+    with_points, with_row,
 };
-use looks::x_of;
+use looks::{are_texts, x_of};
 use sop_fixed::Int;
 use sop_model::{Class, GeoView, Value};
 use sop_pages::Cell;
@@ -25,7 +25,24 @@ fn a_share_keeps_what_it_had(rt: HostRuntime) -> Result<(), Fail> {
     assert_eq!(rt; x_of(&vault.view(second), 0), Some(5));
     vault.drop_geo(first);
     vault.drop_geo(second);
+    let loaded = with_row(rt.alloc(), &mut vault, 7)?;
+    assert_eq!(rt; x_of(&vault.view(loaded), 0), Some(7));
+    vault.drop_geo(loaded);
     assert_eq!(rt; vault.pages(), 0);
+    Ok(())
+}
+
+#[test]
+fn texts_are_shared(rt: HostRuntime) -> Result<(), Fail> {
+    let mut vault = Vault::new(rt.alloc());
+    let first = with_points(&mut vault, 0)?;
+    add_attr(&mut vault, first, "a")?;
+    add_prim(&mut vault, first, &[])?;
+    add_prim(&mut vault, first, &[])?;
+    set_text(rt.alloc(), &mut vault, first, 1)?;
+    let second = share(&mut vault, first)?;
+    assert!(rt; are_texts(&vault.view(first), "", "text"));
+    assert!(rt; are_texts(&vault.view(second), "", "text"));
     Ok(())
 }
 

@@ -1,19 +1,16 @@
 //! Calls of a vault, whose conditions are tested as they run. What is live stays live in each.
-ghost use Rattle.std.specs.Prelude.{◌≡◌, ◌≢◌, Some, IfOk, IsTrue, IsPermutation};
+ghost use Rattle.std.specs.Prelude.{◌≡◌, ◌≢◌, IfOk, IsTrue, IsPermutation};
 ghost use Rattle.std.specs.List.{range_with_len};
-ghost use Rattle.sop_model.specs.declared.class.Class.TheVariants.{Prim};
-ghost use Rattle.sop_model.specs.declared.value.Kind.TheVariants.{Str};
 ghost use Rattle.sop_model.specs.Names.{is_name};
 ghost use Rattle.sop_model.specs.Geometry.{IsReadable};
-ghost use Rattle.sop_model.specs.Rows.{kind_at, HasHead, HasElement};
 ghost use Rattle.sop_model.specs.Sweep.{AreMarksOf};
 ghost use Rattle.sop_vault.specs.Keyed.{IsLive};
 ghost use Rattle.sop_vault.specs.Living.{StayLive};
 
-use super::looks::has_place;
+use super::looks::{has_place, has_text};
 use crate::{GeoKey, Vault, VaultEnd};
 use sop_fixed::{Real, Vec3};
-use sop_model::{Class, GeoView, Kind, Value};
+use sop_model::{Class, Geo, GeoView, Kind, Value};
 use sop_outside::Text;
 use sop_rows::Marks;
 use sop_sheets::GeoRef;
@@ -27,6 +24,15 @@ pub fn with_points(vault: &mut Vault<'_>, points: u32) -> Result<GeoKey, VaultEn
     let key = vault.empty()?;
     vault.add_points(key, points)?;
     Ok(key)
+}
+
+/// A new key of a point that comes as a row, so far along x.
+pub fn with_row(alloc: Global, vault: &mut Vault<'_>, millionths: i64) -> Result<GeoKey, VaultEnd>
+    ensures live { IfOk result (λ key. IsLive vault.new.geos key) }
+    ensures stay { StayLive vault.old.geos vault.new.geos }
+{
+    let rows = Geo::of_points(alloc, &[along_x(millionths)?])?;
+    vault.load_rows(&rows)
 }
 
 /// Another key of a geometry.
@@ -100,18 +106,22 @@ pub fn set_x(
     requires { IsLive vault.old.geos key }
     ensures { StayLive vault.old.geos vault.new.geos }
 {
-    let (Ok(x), Ok(zero)) = (Real::of_millionths(millionths), Real::of_millionths(0)) else {
-        return Err(VaultEnd::Limit);
-    };
     if !has_place(&vault.view(key), point) {
         return Err(VaultEnd::NoPoint);
     }
-    let place = Vec3 {
+    let place = Value::Vector(along_x(millionths)?);
+    vault.set(key, Class::Point, 0, point, &place)
+}
+
+fn along_x(millionths: i64) -> Result<Vec3, VaultEnd> {
+    let (Ok(x), Ok(zero)) = (Real::of_millionths(millionths), Real::of_millionths(0)) else {
+        return Err(VaultEnd::Limit);
+    };
+    Ok(Vec3 {
         x,
         y: zero,
         z: zero,
-    };
-    vault.set(key, Class::Point, 0, point, &Value::Vector(place))
+    })
 }
 
 /// Adds a closed primitive.
@@ -211,27 +221,21 @@ pub fn cell_of(vault: &mut Vault<'_>, text: Text) -> Result<(), VaultEnd>
     Ok(())
 }
 
-/// Gives the first primitive a text under its first attribute.
-pub fn set_text(alloc: Global, vault: &mut Vault<'_>, key: GeoKey) -> Result<(), VaultEnd>
+/// Gives a primitive a text under its first attribute.
+pub fn set_text(
+    alloc: Global,
+    vault: &mut Vault<'_>,
+    key: GeoKey,
+    prim: u32,
+) -> Result<(), VaultEnd>
     requires { IsLive vault.old.geos key }
     ensures { StayLive vault.old.geos vault.new.geos }
 {
     let text = Text::from_str(alloc, "text")?;
-    if !has_text(&vault.view(key)) {
+    if !has_text(&vault.view(key), prim) {
         return Err(VaultEnd::NoAttr);
     }
-    vault.set(key, Class::Prim, 0, 0, &Value::Str(text))
-}
-
-/// Whether the first primitive has a text.
-fn has_text(view: &GeoRef<'_>) -> bool
-    requires { IsReadable view.now }
-    ensures { IsTrue result → HasHead view.now Prim 0 × HasElement view.now Prim 0 × (kind_at view.now Prim 0 ≡ Some Str) }
-{
-    if view.heads(Class::Prim) == 0 || view.count(Class::Prim) == 0 {
-        return false;
-    }
-    view.head_kind(Class::Prim, 0) == Kind::Str
+    vault.set(key, Class::Prim, 0, prim, &Value::Str(text))
 }
 
 /// A new key of the empty geometry, which is dropped again.
@@ -240,6 +244,14 @@ pub fn add_and_drop(vault: &mut Vault<'_>) -> Result<(), VaultEnd>
 {
     let key = vault.empty()?;
     vault.drop_geo(key);
+    Ok(())
+}
+
+/// A new key of a point that comes as a row; it stays.
+pub fn load_row(alloc: Global, vault: &mut Vault<'_>) -> Result<(), VaultEnd>
+    ensures { StayLive vault.old.geos vault.new.geos }
+{
+    with_row(alloc, vault, 1)?;
     Ok(())
 }
 

@@ -1,7 +1,7 @@
 //! What is seen of a vault.
 ghost use Rattle.std.specs.Prelude.{◌≡◌, ◌<◌, Some, IsTrue};
-ghost use Rattle.sop_model.specs.declared.class.Class.TheVariants.{Point};
-ghost use Rattle.sop_model.specs.declared.value.Kind.TheVariants.{Vector};
+ghost use Rattle.sop_model.specs.declared.class.Class.TheVariants.{Point, Prim};
+ghost use Rattle.sop_model.specs.declared.value.Kind.TheVariants.{Str, Vector};
 ghost use Rattle.sop_model.specs.Geometry.{count_of, IsReadable};
 ghost use Rattle.sop_model.specs.Rows.{kind_at, HasHead, HasElement};
 ghost use Rattle.sop_vault.specs.Keyed.{IsLive};
@@ -53,6 +53,36 @@ pub fn has_place(view: &GeoRef<'_>, point: u32) -> bool
         return false;
     }
     view.head_kind(Class::Point, 0) == Kind::Vector
+}
+
+/// Whether there is such a primitive with a text.
+pub fn has_text(view: &GeoRef<'_>, prim: u32) -> bool
+    requires { IsReadable view.now }
+    ensures { IsTrue result → HasHead view.now Prim 0 × HasElement view.now Prim prim × (kind_at view.now Prim 0 ≡ Some Str) }
+{
+    if view.heads(Class::Prim) == 0 || prim >= view.count(Class::Prim) {
+        return false;
+    }
+    view.head_kind(Class::Prim, 0) == Kind::Str
+}
+
+/// Whether these are the texts of the first two primitives.
+pub fn are_texts(view: &GeoRef<'_>, first: &str, second: &str) -> bool
+    requires { IsReadable view.now }
+{
+    is_text(view, 0, first) && is_text(view, 1, second)
+}
+
+fn is_text(view: &GeoRef<'_>, prim: u32, text: &str) -> bool
+    requires { IsReadable view.now }
+{
+    if !has_text(view, prim) {
+        return false;
+    }
+    match view.value(Class::Prim, 0, prim) {
+        ValueRef::Str(found) => found == text,
+        _ => false,
+    }
 }
 
 fn added(sum: u64, number: u64) -> u64 {

@@ -6,7 +6,7 @@ ghost use Rattle.sop_vault.specs.Living.{StayLive};
 
 use super::calls::{
     add_and_drop, add_attr, add_group, add_points, add_prim, add_vertex, cell_of, del_attr, double,
-    keep_without, reverse, set_member, set_text, set_x, share_and_drop,
+    keep_without, load_row, reverse, set_member, set_text, set_x, share_and_drop,
 };
 use super::looks::{has_place, look_at};
 use crate::{GeoKey, Vault, VaultEnd};
@@ -19,6 +19,7 @@ use std::process::Abort;
 #[derive(Clone, Copy)]
 enum Call {
     Empty,
+    LoadRows,
     Cell,
     AddPoints,
     AddAttr,
@@ -36,8 +37,9 @@ enum Call {
 }
 
 /// The calls in an order in which each finds what it needs.
-const CALLS: [Call; 15] = [
+const CALLS: [Call; 16] = [
     Call::Empty,
+    Call::LoadRows,
     Call::Cell,
     Call::AddPoints,
     Call::AddAttr,
@@ -116,6 +118,7 @@ impl Call {
     {
         match self {
             Call::Empty => add_and_drop(vault),
+            Call::LoadRows => load_row(alloc, vault),
             Call::Cell => cell_of(vault, Text::from_str(alloc, name)?),
             Call::AddPoints => add_points(vault, key, 3),
             Call::AddAttr => add_attr(vault, key, name),
@@ -123,7 +126,7 @@ impl Call {
             Call::AddPrim => add_prim(vault, key, &[0, 1]),
             Call::AddVertices => add_vertex(vault, key, 0, 2),
             Call::Set => set_x(vault, key, 2, 5),
-            Call::SetText => set_text(alloc, vault, key),
+            Call::SetText => set_text(alloc, vault, key, 0),
             Call::SetMember => set_member(vault, key, 2),
             Call::Share => share_and_drop(vault, key),
             Call::Keep => keep_without(alloc, vault, key, 1),
