@@ -33,6 +33,22 @@ fn a_share_keeps_what_it_had(rt: HostRuntime) -> Result<(), Fail> {
 }
 
 #[test]
+fn a_changed_copy_takes_a_page(rt: HostRuntime) -> Result<(), Fail> {
+    let mut vault = Vault::new(rt.alloc());
+    let first = with_points(&mut vault, 3_000)?;
+    let pages = vault.pages();
+    let second = share(&mut vault, first)?;
+    assert_eq!(rt; vault.pages(), pages);
+    set_x(&mut vault, second, 0, 5)?;
+    assert_eq!(rt; vault.pages(), pages.wrapping_add(1));
+    set_x(&mut vault, second, 1, 5)?;
+    assert_eq!(rt; vault.pages(), pages.wrapping_add(1));
+    vault.drop_geo(second);
+    assert_eq!(rt; vault.pages(), pages);
+    Ok(())
+}
+
+#[test]
 fn texts_are_shared(rt: HostRuntime) -> Result<(), Fail> {
     let mut vault = Vault::new(rt.alloc());
     let first = with_points(&mut vault, 0)?;
