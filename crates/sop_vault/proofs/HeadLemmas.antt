@@ -1,6 +1,6 @@
 -- Attributes and groups of the geometry at a key, told by its sheet: which there are, and whether there is room for another.
 use Rattle.std.proofs.Common.{◌≡◌, ◌≢◌, ℕ, zero, suc, ◌+◌, ◌<◌, ◌≤◌, true, false, List, [], ◌∷◌, length, refl, ap, sym, ◌∙◌, subst, arith}
-use Rattle.std.specs.Prelude.{Option, Some, None, is_some, IfSome, position, slice_set}
+use Rattle.std.specs.Prelude.{Option, Some, None, is_some, IfSome, IsSomeAnd, position, slice_set}
 use Rattle.std.specs.Str.{bytes_eq}
 use Rattle.std.proofs.lemmas.Bool.{false≢true}
 use Rattle.std.proofs.lemmas.List.Quantifiers.{position-Some}
@@ -85,11 +85,11 @@ module _ (s : ShelfPages) (n : NameTable) (slots : Keyed SheetLists) (c : Counte
 
   -- the clause of an attribute that goes
   pub gone_clause : (t : ShelfPages) (m : NameTable) (now : SheetLists) → AreCounted t.own → (class : Class) (name : List ℕ) (head : ℕ) → head_named here class name ≡ Some head → Becomes s t n m sheet now (attr_deleted here class head)
-      → (v : VaultMap) → vault_of s n slots ≡ v → (k : ℕ) → key ≡ k → IfSome (at v.geos k) (λ g. IfSome (head_named g class name) (λ h. Changed v (vault_of t m (slice_set slots key (Some now))) k (Some (attr_deleted g class h))))
+      → (v : VaultMap) → vault_of s n slots ≡ v → (k : ℕ) → key ≡ k → IfSome (at v.geos k) (λ g. IsSomeAnd (head_named g class name) (λ h. Changed v (vault_of t m (slice_set slots key (Some now))) k (Some (attr_deleted g class h))))
   gone_clause t m now counted class name head found made v same k at_k =
       let changed = asked v same k at_k (λ (g : Geo). Changed v (vault_of t m (slice_set slots key (Some now))) k (Some (attr_deleted g class head))) (changed_clause s n slots c key sheet is t m now counted (λ (g : Geo). attr_deleted g class head) made v same k at_k) in
-      told v same k at_k (λ (g : Geo). IfSome (head_named g class name) (λ h. Changed v (vault_of t m (slice_set slots key (Some now))) k (Some (attr_deleted g class h))))
-      (subst (λ (o : Option ℕ). IfSome o (λ h. Changed v (vault_of t m (slice_set slots key (Some now))) k (Some (attr_deleted here class h)))) (sym found) changed)
+      told v same k at_k (λ (g : Geo). IsSomeAnd (head_named g class name) (λ h. Changed v (vault_of t m (slice_set slots key (Some now))) k (Some (attr_deleted g class h))))
+      (subst (λ (o : Option ℕ). IsSomeAnd o (λ h. Changed v (vault_of t m (slice_set slots key (Some now))) k (Some (attr_deleted here class h)))) (sym found) changed)
 
 -- there is none where the search found none
 pub none_by : {X : Type 0} (o : Option X) → is_some o ≡ false → o ≡ None

@@ -1,5 +1,5 @@
 //! Attributes and groups that come to a geometry, and attributes that go.
-ghost use Rattle.std.specs.Prelude.{◌≡◌, ◌<◌, ◌≤◌, None, Some, length, IfOk, IfErr, OnOk, OnErr, IfSome, IsTrue};
+ghost use Rattle.std.specs.Prelude.{◌≡◌, ◌<◌, ◌≤◌, None, Some, length, IfOk, IfErr, OnOk, OnErr, IfSome, IsSomeAnd, IsTrue};
 ghost use Rattle.sop_model.specs.Names.{is_name};
 ghost use Rattle.sop_model.specs.declared.value.Kind.{Kind};
 ghost use Rattle.sop_model.specs.Limits.{most_heads, most_groups};
@@ -50,7 +50,7 @@ impl<'b> Vault<'b> {
     pub fn del_attr(&mut self, key: GeoKey, class: Class, name: &str) -> Result<(), VaultEnd>
         requires live { IsLive self.old.geos key }
         requires apart { IsNoPosition class name.now }
-        ensures ok { OnOk result (IfSome (at self.old.geos key) (λ g. IfSome (head_named g class name.now) (λ head. Changed self.old self.new key (Some (attr_deleted g class head))))) }
+        ensures ok { OnOk result (IfSome (at self.old.geos key) (λ g. IsSomeAnd (head_named g class name.now) (λ head. Changed self.old self.new key (Some (attr_deleted g class head))))) }
         ensures pages { self.new.pages ≤ self.old.pages }
         ensures refused { IfErr result (λ end. IfSome (at self.old.geos key) (λ g. gone_refused class name.now g end)) }
         ensures err { OnErr result (IsAsBefore self.old self.new) }

@@ -69,9 +69,6 @@ pub fn del_attr(vault: &mut Vault<'_>, key: GeoKey, name: &str) -> Result<(), Va
     requires { IsLive vault.old.geos key }
     ensures { StayLive vault.old.geos vault.new.geos }
 {
-    if vault.view(key).find(Class::Prim, name).is_none() {
-        return Err(VaultEnd::NoAttr);
-    }
     vault.del_attr(key, Class::Prim, name)
 }
 
