@@ -26,14 +26,8 @@ pub mod ObjUnrefused
 pub mod ObjVectors
 pub mod ObjNames
 pub mod ObjReferencing
-pub mod Plain
-pub mod Words
-pub mod Lines
-pub mod Sheets
-pub mod Goodness
-mod Steps
+mod Splitting
 mod Writing
-mod Examples
 pub mod Listed
 mod ListingExamples
 mod ObjExamples

@@ -17,7 +17,7 @@ use Rattle.geo_text.specs.ObjLines.{is_filled}
 use Rattle.geo_text.specs.ObjMeaning.{Piece, PointPiece, TexturePiece, NormalPiece, ShapePiece, GroupsPiece, NoPiece, place_of, texture_of, normal_of, shapes_under, geo_of, geo_from, attributes_of}
 use Rattle.geo_text.specs.ObjText.{vector_head, vector_under, parts_of, same_flags, groups_of, no_flags}
 use Rattle.geo_text.specs.ObjPieces.{place_written, vectors_under, named_written, prims_pieces, pieces_written}
-use Rattle.geo_text.specs.Carried.{head_where, colour_of, value_where, carried_point}
+use Rattle.geo_text.specs.Carried.{head_where, colour_carried, value_where, carried_point}
 use Rattle.geo_text.specs.ObjTaking.{point_row, value_if}
 use Rattle.geo_text.specs.declared.taker.Attributes.{Attributes}
 use Rattle.sop_model.specs.declared.value.Value.TheVariants as value
@@ -120,7 +120,7 @@ colours_any None (row ∷ rows) = colours_none rows
     colours_none (row ∷ rows) = colours_none rows
 colours_any (Some head) (row ∷ rows) = refl
 
-pub colour_back : (g : Geo) → list_any (λ p. is_some p.colour) (map (place_written (vector_head g.point (codes "Cd"))) g.points) ≡ is_some (colour_of g)
+pub colour_back : (g : Geo) → list_any (λ p. is_some p.colour) (map (place_written (vector_head g.point (codes "Cd"))) g.points) ≡ is_some (colour_carried g)
 colour_back g = colours_any (vector_head g.point (codes "Cd")) g.points
 
 filled_append : {A : Type 0} (a b : List A) → is_filled (a ++ b) ≡ (is_filled a || is_filled b)
@@ -189,7 +189,7 @@ normal_back g all = normals_any g 0 g.prims all ∙ where_filled (list_any (λ p
 -- the attributes that the text carries
 abbrev pub has_carried : Geo → Attributes
 has_carried g = record {
-  colour = is_some (colour_of g);
+  colour = is_some (colour_carried g);
   texture = is_some (head_where (is_filled (corners_of g.prims)) (vector_head g.vertex (codes "uv")));
   normal = is_some (head_where (list_any (λ p. p.closed) g.prims) (vector_head g.vertex (codes "N")));
 }

@@ -1,7 +1,7 @@
 -- The geometry of a text that isn't refused is well made and within every limit.
 use Rattle.std.proofs.Common.{◌≡◌, ℕ, ◌*◌, ◌<◌, ◌≤◌, List, [], ◌∷◌, ◌++◌, length, map, refl, ◌∙◌, subst, arith, Bool, true, false, inl, inr, length-append}
 use Rattle.std.specs.Prelude.{All, sum_by, codes, unwrap_or}
-use Rattle.std.specs.List.{flat_map}
+use Rattle.std.specs.List.{flat_map, list_all}
 use Rattle.std.proofs.lemmas.Bool.{cases_Bool, and_parts, and_from}
 use Rattle.std.proofs.lemmas.List.{length-map, length-take}
 use Rattle.std.proofs.lemmas.List.Elements.{All-nil, All-cons, All-head, All-tail, All-append, All-map, All-weaker}
@@ -19,7 +19,7 @@ use Rattle.sop_model.specs.Names.{is_name}
 use Rattle.sop_model.specs.Limits.{most_points, most_prims, most_vertices, most_heads, most_groups, most_weight}
 use Rattle.sop_model.specs.Vertices.{size_of, corners_of}
 use Rattle.sop_model.specs.Merge.{first_names}
-use Rattle.sop_model.specs.Geometry.{empty_row, no_heads, position_head, heads_of, rows_of, row_weight, geo_weight, IsNamed, IsRowOf, IsGood, Fits}
+use Rattle.sop_model.specs.Geometry.{empty_row, no_heads, position_head, heads_of, rows_of, row_weight, geo_weight, is_row_within, IsNamed, IsRowOf, IsGood, Fits, AreValuesWithin}
 use Rattle.sop_model.proofs.LimitsLemmas.{IsWithin-from, Fits-from}
 use Rattle.geo_text.specs.declared.taker.Attributes.{Attributes}
 use Rattle.geo_text.specs.declared.reference.Named.{Named}
@@ -76,6 +76,20 @@ vertex_kinds false false v w = refl
 point_weight : (b : Bool) (v w : Vec3) → row_weight (record { values = value.Vector v ∷ value_if b w; flags = [] }) ≤ 6
 point_weight true v w = omega arith
 point_weight false v w = omega arith
+
+point_within : (b : Bool) (v w : Vec3) → is_row_within (record { values = value.Vector v ∷ value_if b w; flags = [] }) ≡ true
+point_within true v w = refl
+point_within false v w = refl
+
+vertex_within : (b c : Bool) (v w : Vec3) → is_row_within (record { values = value_if b v ++ value_if c w; flags = [] }) ≡ true
+vertex_within true true v w = refl
+vertex_within true false v w = refl
+vertex_within false true v w = refl
+vertex_within false false v w = refl
+
+list_all-same : {X : Type 0} (test : X → Bool) (xs : List X) → All (λ x. test x ≡ true) xs → list_all test xs ≡ true
+list_all-same test [] all = refl
+list_all-same test (x ∷ xs) all = and_from _ _ (All-head (λ x. test x ≡ true) x xs all) (list_all-same test xs (All-tail (λ x. test x ≡ true) x xs all))
 
 vertex_weight : (b c : Bool) (v w : Vec3) → row_weight (record { values = value_if b v ++ value_if c w; flags = [] }) ≤ 6
 vertex_weight true true v w = omega arith
@@ -217,3 +231,13 @@ module _ (has : Attributes) (textures normals : List Vec3) where
       let prims : length (prims_of (group_names shapes) shapes) ≤ most_prims = omega (arith, some, length-map shapes (prim_of has textures normals (group_names shapes))) in
       let vertices : length (corners_of (prims_of (group_names shapes) shapes)) ≤ most_vertices = omega (arith, less, corners_many (group_names shapes) shapes) in
       Fits-from (whole places shapes) (IsWithin-from (whole places shapes) points prims vertices (few_heads places shapes) (few_names places shapes)) (whole_weight places shapes all few less)
+
+  -- no value is a string or a list
+  pub whole_within : (places : List Place) (shapes : List Shaped) → All (IsSoundShape (length places)) shapes → AreValuesWithin (whole places shapes)
+  whole_within places shapes all =
+      let g = whole places shapes in
+      let prims = list_all-same is_row_within (rows_of g Prim) (prim_rows (λ row. is_row_within row ≡ true) (group_names shapes) (λ s. refl) shapes) in
+      let points = list_all-same is_row_within g.points (point_rows (λ row. is_row_within row ≡ true) (λ p. point_within has.colour p.at (unwrap_or p.colour zero_vector)) places) in
+      let vertices = list_all-same is_row_within (rows_of g Vertex)
+      (vertices_rows (λ row. is_row_within row ≡ true) (λ n. let v = vertex_of textures normals n in vertex_within has.texture has.normal v.texture v.normal) (length places) shapes all) in
+      record { within = and_from _ _ (and_from _ _ (and_from _ _ refl prims) points) vertices }

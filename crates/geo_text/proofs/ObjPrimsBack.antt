@@ -22,7 +22,7 @@ use Rattle.geo_text.specs.ObjTaking.{value_if, point_row, begun, vertex_taken}
 use Rattle.geo_text.specs.ObjMeaning.{vector_at, vertex_of, prim_of, group_names, meaning}
 use Rattle.geo_text.specs.ObjText.{vector_head, vector_under, parts_of, groups_of, text_of}
 use Rattle.geo_text.specs.ObjPieces.{place_written, vectors_under, number_if, named_written}
-use Rattle.geo_text.specs.Carried.{AreReal, head_where, value_where, normal_where, texture_of, normal_of, carried_corner, carried_prim, carried_point, used_groups, carried}
+use Rattle.geo_text.specs.Carried.{AreReal, head_where, value_where, normal_where, texture_carried, normal_carried, carried_corner, carried_prim, carried_point, used_groups, carried}
 use Rattle.geo_text.proofs.ObjShapesBack.{shapes_written}
 use Rattle.geo_text.proofs.ObjBack.{has_carried, attributes_back, points_back, read_again, geo_back}
 use Rattle.geo_text.proofs.ObjUnrefused.{text_read}
@@ -71,9 +71,9 @@ corner_back g p k c closed h =
     let uv = vector_head g.vertex (codes "uv") in
     let n = vector_head g.vertex (codes "N") in
     let at = row_at g k c h in
-    ap (λ values. record { point = c.point; row = record { values = values ++ value_if (is_some (normal_of g)) (vector_at (normals_of g) (number_if (is_some n && p.closed) k)); flags = [] } })
+    ap (λ values. record { point = c.point; row = record { values = values ++ value_if (is_some (normal_carried g)) (vector_at (normals_of g) (number_if (is_some n && p.closed) k)); flags = [] } })
     (texture_value uv (is_filled (corners_of g.prims)) (rows_of g Vertex) k c.row (filled_at (corners_of g.prims) k c h) at)
-    ∙ ap (λ values. record { point = c.point; row = record { values = value_where (texture_of g) c.row ++ values; flags = [] } })
+    ∙ ap (λ values. record { point = c.point; row = record { values = value_where (texture_carried g) c.row ++ values; flags = [] } })
     (normal_value n (list_any (λ p. p.closed) g.prims) p.closed (rows_of g Vertex) k c.row closed at)
 
 corners_back : (g : Geo) (p : Primitive) (front corners back : List Corner) (before : ℕ) → (p.closed ≡ true → list_any (λ p. p.closed) g.prims ≡ true) → length front ≡ before → front ++ (corners ++ back) ≡ corners_of g.prims

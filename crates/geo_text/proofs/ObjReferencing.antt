@@ -5,18 +5,18 @@ use Rattle.std.proofs.lemmas.Bool.{cases_Bool}
 use Rattle.std.proofs.lemmas.Bool.Decides.{nat_tests}
 use Rattle.geo_text.specs.ObjStatements.{Part, Absent, Ahead, Back, Wrong}
 use Rattle.geo_text.specs.ObjMeaning.{needed, optional}
-use Rattle.geo_text.specs.ObjReferences.{parts_of, goes_on}
+use Rattle.geo_text.specs.ObjReferences.{slash_parts, goes_on}
 
-some_parts : (text : List ℕ) → (p : List ℕ) × (ps : List (List ℕ)) × (parts_of text ≡ p ∷ ps)
+some_parts : (text : List ℕ) → (p : List ℕ) × (ps : List (List ℕ)) × (slash_parts text ≡ p ∷ ps)
 some_parts [] = ([], [], refl)
 some_parts (b ∷ text) =
     let (p, ps, e) = some_parts text in
     elim (cases_Bool (b == 47)) [
-      | inl slash ↦ ([], parts_of text, rw slash refl)
+      | inl slash ↦ ([], slash_parts text, rw slash refl)
       | inr other ↦ (b ∷ p, ps, rw (other, e) refl)
     ]
 
-parts_go_on : (b : ℕ) (text : List ℕ) → goes_on (parts_of (b ∷ text)) ≡ true
+parts_go_on : (b : ℕ) (text : List ℕ) → goes_on (slash_parts (b ∷ text)) ≡ true
 parts_go_on b text =
     let (p, ps, e) = some_parts text in
     elim (cases_Bool (b == 47)) [
@@ -27,7 +27,7 @@ parts_go_on b text =
 some_bytes : (b : ℕ) (text : List ℕ) → not (length (b ∷ text) == 0) ≡ true
 some_bytes b text = grind (arith, nat_tests)
 
-pub text_goes_on : (text : List ℕ) → not (length text == 0) ≡ goes_on (parts_of text)
+pub text_goes_on : (text : List ℕ) → not (length text == 0) ≡ goes_on (slash_parts text)
 text_goes_on [] = refl
 text_goes_on (b ∷ text) = some_bytes b text ∙ sym (parts_go_on b text)
 

@@ -1,4 +1,4 @@
--- What a view of a geometry with `P` alone gives, as its text wants it.
+-- What a view of a geometry gives, as its text wants it.
 use Rattle.std.proofs.Common.{◌≡◌, ℕ, zero, suc, ◌+◌, ◌≤◌, List, [], ◌∷◌, ◌++◌, length, take, drop, append_assoc, append-nil, length-append, refl, sym, ap, subst, ◌∙◌, arith, Option, Some, None, Bool}
 use Rattle.std.specs.Prelude.{slice_get, codes, if◌then◌else◌}
 use Rattle.std.specs.List.{flat_map}
@@ -6,7 +6,6 @@ use Rattle.std.specs.Option.{option_map}
 use Rattle.std.proofs.lemmas.List.Sums.{sum_by-cons}
 use Rattle.sop_model.specs.declared.geo.Primitive.{Primitive}
 use Rattle.sop_model.specs.Vertices.{size_of, corners_of, first_vertex_in}
-use Rattle.geo_text.specs.ObjWriting.{reference_text, primitive_line}
 
 -- ---- one more item of a list
 pub flat_map_more : {A : Type 0} (f : A → List ℕ) (xs : List A) (i : ℕ) (x : A) → slice_get xs i ≡ Some x → flat_map f (take (i + 1) xs) ≡ flat_map f (take i xs) ++ f x
@@ -63,29 +62,6 @@ pub prim_inside : (prims : List Primitive) (i first size : ℕ) → option_map s
 prim_inside prims i first size e at =
     let (p, here, is) = mapped_some size_of (slice_get prims i) size e in
     omega (arith, (piece_at prims i p here).inside, at, is)
-
--- a text that grew by the keyword, the references and the end of a line
-pub prim_text : (prims : List Primitive) (i first size : ℕ) (closed : Bool) (old keyword keyed referred whole : List ℕ)
-    → option_map size_of (slice_get prims i) ≡ Some size → option_map (λ p. p.closed) (slice_get prims i) ≡ Some closed → first ≡ first_vertex_in prims i
-    → keyword ≡ (if closed then codes "f" else codes "l") → keyed ≡ old ++ keyword
-    → referred ≡ keyed ++ flat_map reference_text (take size (drop first (corners_of prims))) → whole ≡ referred ++ codes "\n"
-    → option_map (λ p. old ++ primitive_line p) (slice_get prims i) ≡ Some whole
-prim_text prims i first size closed old keyword keyed referred whole sized closes at key k r w =
-    let (p, here, is) = mapped_some size_of (slice_get prims i) size sized in
-    let shut : p.closed ≡ closed = let e : Some p.closed ≡ Some closed = ap (option_map (λ p. p.closed)) (sym here) ∙ closes in cc in
-    let corners : take size (drop first (corners_of prims)) ≡ p.corners = ap (λ n. take n (drop first (corners_of prims))) (sym is) ∙ ap (λ n. take (size_of p) (drop n (corners_of prims))) at ∙ (piece_at prims i p here).corners in
-    let head : keyword ≡ (if p.closed then codes "f" else codes "l") = key ∙ ap (λ b. if b then codes "f" else codes "l") (sym shut) in
-    let references = flat_map reference_text p.corners in
-    let text : whole ≡ old ++ ((if p.closed then codes "f" else codes "l") ++ references ++ codes "\n") =
-    w ∙ ap (λ t. t ++ codes "\n") (r ∙ ap (λ l. keyed ++ flat_map reference_text l) corners ∙ ap (λ t. t ++ references) (k ∙ ap (λ l. old ++ l) head))
-    ∙ ap (λ t. t ++ codes "\n") (append_assoc old (if p.closed then codes "f" else codes "l") references)
-    ∙ append_assoc old ((if p.closed then codes "f" else codes "l") ++ references) (codes "\n") in
-    ap (option_map (λ p. old ++ primitive_line p)) here ∙ ap Some (sym text)
-
-pub prims_more : (prims : List Primitive) (i : ℕ) (old text longer : List ℕ) → option_map (λ p. text ++ primitive_line p) (slice_get prims i) ≡ Some longer → text ≡ old ++ flat_map primitive_line (take i prims) → longer ≡ old ++ flat_map primitive_line (take (i + 1) prims)
-prims_more prims i old text longer e so_far =
-    let (p, here, is) = mapped_some (λ p. text ++ primitive_line p) (slice_get prims i) longer e in
-    sym is ∙ ap (λ t. t ++ primitive_line p) so_far ∙ append_assoc old (flat_map primitive_line (take i prims)) (primitive_line p) ∙ ap (λ l. old ++ l) (sym (flat_map_more primitive_line prims i p here))
 
 -- a text that grew by one more item
 pub list_more : {A : Type 0} (f : A → List ℕ) (xs : List A) (i : ℕ) (x : A) (old text longer : List ℕ) → slice_get xs i ≡ Some x → longer ≡ text ++ f x → text ≡ old ++ flat_map f (take i xs) → longer ≡ old ++ flat_map f (take (i + 1) xs)

@@ -29,14 +29,14 @@ abbrev pub head_where : Bool → Option ℕ → Option ℕ
 head_where true head = head
 head_where false head = None
 
-abbrev pub colour_of : Geo → Option ℕ
-colour_of g = head_where (is_filled g.points) (vector_head g.point (codes "Cd"))
+abbrev pub colour_carried : Geo → Option ℕ
+colour_carried g = head_where (is_filled g.points) (vector_head g.point (codes "Cd"))
 
-abbrev pub texture_of : Geo → Option ℕ
-texture_of g = head_where (is_filled (corners_of g.prims)) (vector_head g.vertex (codes "uv"))
+abbrev pub texture_carried : Geo → Option ℕ
+texture_carried g = head_where (is_filled (corners_of g.prims)) (vector_head g.vertex (codes "uv"))
 
-abbrev pub normal_of : Geo → Option ℕ
-normal_of g = head_where (list_any (λ p. p.closed) g.prims) (vector_head g.vertex (codes "N"))
+abbrev pub normal_carried : Geo → Option ℕ
+normal_carried g = head_where (list_any (λ p. p.closed) g.prims) (vector_head g.vertex (codes "N"))
 
 -- the value of a row where there is the head
 abbrev pub value_where : Option ℕ → Row → List Value
@@ -48,10 +48,10 @@ normal_where None closed row = []
 normal_where (Some head) closed row = value.Vector (if closed then vector_under head row else zero_vector) ∷ []
 
 abbrev pub carried_point : Geo → Row → Row
-carried_point g row = record { values = value.Vector (place_of row) ∷ value_where (colour_of g) row; flags = [] }
+carried_point g row = record { values = value.Vector (place_of row) ∷ value_where (colour_carried g) row; flags = [] }
 
 abbrev pub carried_corner : Geo → (closed : Bool) → Corner → Corner
-carried_corner g closed c = record { point = c.point; row = record { values = value_where (texture_of g) c.row ++ normal_where (normal_of g) closed c.row; flags = [] } }
+carried_corner g closed c = record { point = c.point; row = record { values = value_where (texture_carried g) c.row ++ normal_where (normal_carried g) closed c.row; flags = [] } }
 
 -- the groups that some primitive is in
 abbrev pub used_groups : Geo → List (List ℕ)
@@ -68,8 +68,8 @@ abbrev pub carried : Geo → Geo
 carried g = record {
   detail = no_heads;
   prim = record { heads = []; groups = used_groups g };
-  point = record { heads = position_head ∷ head_if (is_some (colour_of g)) (codes "Cd"); groups = [] };
-  vertex = record { heads = head_if (is_some (texture_of g)) (codes "uv") ++ head_if (is_some (normal_of g)) (codes "N"); groups = [] };
+  point = record { heads = position_head ∷ head_if (is_some (colour_carried g)) (codes "Cd"); groups = [] };
+  vertex = record { heads = head_if (is_some (texture_carried g)) (codes "uv") ++ head_if (is_some (normal_carried g)) (codes "N"); groups = [] };
   points = map (carried_point g) g.points;
   prims = map (carried_prim g) g.prims;
   detail_row = empty_row;

@@ -19,13 +19,13 @@ abbrev pub told : {A : Type 0} → ℕ → Result A WordFault → Result A Refus
 told line (Ok x) = Ok x
 told line (Err f) = Err (refusal line f)
 
-abbrev pub parts_of : List ℕ → List (List ℕ)
-parts_of text = slice_split (λ b. b == 47) text
+abbrev pub slash_parts : List ℕ → List (List ℕ)
+slash_parts text = slice_split (λ b. b == 47) text
 
 -- the parts behind a slash, where there is one
 abbrev pub parts_left : Option (Bor (List ℕ)) → List (List ℕ)
 parts_left None = []
-parts_left (Some rest) = parts_of rest.now
+parts_left (Some rest) = slash_parts rest.now
 
 -- of some parts: the first and those behind it, or an empty one where there are none
 abbrev pub IsNextPart : List (List ℕ) → List ℕ → List (List ℕ) → Type 0

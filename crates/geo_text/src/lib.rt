@@ -1,33 +1,30 @@
-//! Texts of geometries: OBJ, read and written.
+//! Texts of geometries: OBJ, read and written, and the listing.
 #![tactic(auto)]
 
-mod fault;
-pub mod geo_maker;
+mod geo_maker;
 mod group_name;
 mod groups;
 mod listing;
-pub mod obj;
-pub mod obj_fault;
+mod obj;
+mod obj_fault;
 mod obj_lines;
-pub mod obj_writer;
-mod part;
-mod read;
+mod obj_writer;
 mod reader;
 mod reference;
 mod scan;
-mod sheet;
 mod survey;
-pub mod taker;
+mod taker;
 mod totals;
 mod value_text;
 mod vectors;
-mod write;
 mod zero;
 
-pub use fault::ObjFault;
+pub use geo_maker::GeoMaker;
 pub use listing::write_list;
-pub use read::read_obj;
-pub use write::write_obj;
+pub use obj::{read_obj, take_obj};
+pub use obj_fault::ObjFault;
+pub use obj_writer::write_obj;
+pub use taker::{Attributes, ObjTaker, Vertex};
 
 #[cfg(test)]
 mod listing_tests;

@@ -1,6 +1,6 @@
 //! Geometries read from OBJ texts.
 ghost use Rattle.std.specs.Prelude.{◌≡◌, Ok, OnOk, IfOk, IfErr};
-ghost use Rattle.sop_model.specs.Geometry.{IsGood, Fits};
+ghost use Rattle.sop_model.specs.Geometry.{IsGood, Fits, AreValuesWithin};
 ghost use Rattle.geo_text.specs.ObjMeaning.{meaning};
 ghost use Rattle.geo_text.specs.ObjLoop.{IsTold};
 
@@ -19,7 +19,7 @@ use std::alloc::Global;
 /// first word and in that by its first part; `Memory` for want of memory. After an `Err` what was taken is of no use.
 pub fn take_obj<T: ObjTaker>(alloc: Global, bytes: &[u8], taker: &mut T) -> Result<(), ObjFault>
     ensures ok { OnOk result (meaning bytes.now ≡ Ok (T.taken taker.new)) }
-    ensures good { OnOk result (IsGood (T.taken taker.new) × Fits (T.taken taker.new)) }
+    ensures good { OnOk result (IsGood (T.taken taker.new) × Fits (T.taken taker.new) × AreValuesWithin (T.taken taker.new)) }
     ensures err { IfErr result (λ f. IsTold f (meaning bytes.now)) }
 {
     let text = without_mark(bytes);
@@ -33,9 +33,9 @@ pub fn take_obj<T: ObjTaker>(alloc: Global, bytes: &[u8], taker: &mut T) -> Resu
 }
 
 /// The geometry of an OBJ text; the faults are those of `take_obj`.
-pub fn obj_geometry(alloc: Global, bytes: &[u8]) -> Result<Geo, ObjFault>
+pub fn read_obj(alloc: Global, bytes: &[u8]) -> Result<Geo, ObjFault>
     ensures ok { IfOk result (λ geo. meaning bytes.now ≡ Ok geo) }
-    ensures good { IfOk result (λ geo. IsGood geo × Fits geo) }
+    ensures good { IfOk result (λ geo. IsGood geo × Fits geo × AreValuesWithin geo) }
     ensures err { IfErr result (λ f. IsTold f (meaning bytes.now)) }
 {
     let mut maker = GeoMaker::new(alloc);

@@ -354,7 +354,7 @@ fn whole_text<V: GeoView>(alloc: Global, view: &V) -> Result<Vec<u8>, AllocError
 /// each vertex, where vertices have a vector `uv` or `N`; and a line `f` or `l` for each primitive, with lines `g` where the groups
 /// change. Read again, the text of a geometry within the limits means what it carries. The time is linear in the values, flags and
 /// vertices of the geometry.
-pub fn obj_text<V: GeoView>(alloc: Global, view: &V) -> Result<Vec<u8>, AllocError>
+pub fn write_obj<V: GeoView>(alloc: Global, view: &V) -> Result<Vec<u8>, AllocError>
     requires { IsReadable (V.geo view.now) }
     ensures written { IfOk result (λ text. text.items ≡ text_of (V.geo view.now)) }
     ensures back { IfOk result (λ text. IsGood (V.geo view.now) → Fits (V.geo view.now) → AreReal (V.geo view.now) → meaning text.items ≡ Ok (carried (V.geo view.now))) }

@@ -5,7 +5,7 @@ ghost use Rattle.sop_model.specs.Limits.{most_points};
 ghost use Rattle.geo_text.specs.ObjStatements.{part_of, reference_of};
 ghost use Rattle.geo_text.specs.ObjMeaning.{within, needed, optional, named_by};
 ghost use Rattle.geo_text.specs.ObjSurvey.{has_texture, has_normal};
-ghost use Rattle.geo_text.specs.ObjReferences.{told, parts_of, parts_left, IsNextPart, goes_on, reference_seen, AreCounts, AreSoFar};
+ghost use Rattle.geo_text.specs.ObjReferences.{told, slash_parts, parts_left, IsNextPart, goes_on, reference_seen, AreCounts, AreSoFar};
 
 use sop_fixed::{are_digits, read_digits};
 
@@ -55,7 +55,7 @@ fn slash_at(text: &[u8]) -> Option<usize>
 
 /// What stands before the first slash, and what stands behind it where there is one.
 fn split_part(text: &[u8]) -> (&[u8], Option<&[u8]>)
-    ensures { parts_of text.now ≡ result.0.now ∷ parts_left result.1 }
+    ensures { slash_parts text.now ≡ result.0.now ∷ parts_left result.1 }
 {
     match slash_at(text) {
         Some(i) => (&text[..i], Some(&text[i + 1..])),

@@ -1,39 +1,10 @@
 // What no clause says: that the calls succeed with memory at hand.
-use crate::obj::obj_geometry;
-use crate::obj_fault::ObjFault as WholeFault;
-use crate::obj_writer::obj_text;
 use crate::{ObjFault, read_obj, write_obj};
 use std::test::Fail;
 
 #[test]
-fn a_text_is_read_and_written(rt: HostRuntime) -> Result<(), Fail> {
-    let geo = read_obj(rt.alloc(), b"v 0 0 0\nv 1 0.50 0\n\nf 1 2 1\n").expect(
-        &rt,
-        "it has the form",
-    );
-    let text = write_obj(rt.alloc(), &geo)?;
-    assert_eq!(rt; text.as_slice(), &b"v 0 0 0\nv 1 0.5 0\nf 1 2 1\n"[..]);
-    Ok(())
-}
-
-#[test]
-fn other_texts_are_refused(rt: HostRuntime) -> Result<(), Fail> {
-    for text in [
-        &b"v 0 0 0"[..],
-        b"v 0 0  0\n",
-        b"v 0 0\n",
-        b"f 1\n",
-        b"v 0 0 0\nf 0\n",
-    ] {
-        let read = read_obj(rt.alloc(), text);
-        assert!(rt; matches!(&read, Err(ObjFault::NotYet)));
-    }
-    Ok(())
-}
-
-#[test]
 fn a_whole_text_is_read(rt: HostRuntime) -> Result<(), Fail> {
-    let geo = obj_geometry(
+    let geo = read_obj(
         rt.alloc(),
         b"v 0 0 0 1 0 0\r\nv 1 0 \\\r\n0\nvt 0.5\nvn 0 0 1\ng a b\nf 1/1 2//-1\ng b 1\nl -1 1/1/1 # x\n",
     )
@@ -52,21 +23,21 @@ fn a_whole_text_is_read(rt: HostRuntime) -> Result<(), Fail> {
 
 #[test]
 fn a_line_that_is_refused_is_told(rt: HostRuntime) -> Result<(), Fail> {
-    let number = obj_geometry(rt.alloc(), b"#\\\n\nv 0 0\\\n\nv 0\n");
-    assert!(rt; matches!(&number, Err(WholeFault::Number(3))));
-    let index = obj_geometry(rt.alloc(), b"v 0 0 0\nf 1 -0 x\n");
-    assert!(rt; matches!(&index, Err(WholeFault::Index(2))));
+    let number = read_obj(rt.alloc(), b"#\\\n\nv 0 0\\\n\nv 0\n");
+    assert!(rt; matches!(&number, Err(ObjFault::Number(3))));
+    let index = read_obj(rt.alloc(), b"v 0 0 0\nf 1 -0 x\n");
+    assert!(rt; matches!(&index, Err(ObjFault::Index(2))));
     Ok(())
 }
 
 #[test]
 fn a_whole_text_comes_back(rt: HostRuntime) -> Result<(), Fail> {
-    let read = obj_geometry(
+    let read = read_obj(
         rt.alloc(),
         b"v 0 0 0 1 0 0\nv 1 0 0\nvt 0.5\nvn 0 0 1\ng a b\nf 1/1 2//-1\nf 2\ng\nl 1//1\ng 1\nf 1\n",
     )
     .expect(&rt, "it is an OBJ text");
-    let text = obj_text(rt.alloc(), &read)?;
+    let text = write_obj(rt.alloc(), &read)?;
     let wanted =
         b"v 0 0 0 1 0 0\nv 1 0 0 0 0 0\nvt 0.5 0 0\nvt 0 0 0\nvt 0 0 0\nvt 0 0 0\nvt 0 0 0\nvn 0 0 0\nvn 0 0 1\nvn 0 0 0\nvn 0 0 1\nvn 0 0 0\ng a b\nf 1/1/1 2/2/2\nf 2/3/3\ng\nl 1/4\ng _1\nf 1/5/5\n";
     assert_eq!(rt; text.as_slice(), &wanted[..]);

@@ -1,5 +1,5 @@
 use Rattle.std.proofs.Common.{◌==◌, sym}
-use Rattle.geo_text.proofs.Steps.{split_some, split_none}
+use Rattle.geo_text.proofs.Splitting.{split_some, split_none}
 use Rattle.geo_text.proofs.reference.split_part.Goals as goal
 
 pub returns-in-Some : goal.returns-in-Some

@@ -2,7 +2,7 @@ use Rattle.std.proofs.Common.{◌≡◌, Ok, sym, subst}
 use Rattle.geo_text.specs.ObjMeaning.{meaning}
 use Rattle.geo_text.specs.Carried.{carried}
 use Rattle.geo_text.proofs.ObjPrimsBack.{round_trip}
-use Rattle.geo_text.proofs.obj_writer.obj_text.Goals as goal
+use Rattle.geo_text.proofs.obj_writer.write_obj.Goals as goal
 
 pub returns-clause-back : goal.returns-clause-back
 returns-clause-back g c =

@@ -1,9 +1,0 @@
-use Rattle.std.proofs.Common.{◌==◌, sym}
-use Rattle.geo_text.proofs.Steps.{split_some, split_none}
-use Rattle.geo_text.proofs.read.split_word.Goals as goal
-
-pub returns-in-Some : goal.returns-in-Some
-returns-in-Some c = split_some (λ b. b == 32) c.args.text.now c.in-Some.i (sym c.in-Some.ensures)
-
-pub returns-in-None : goal.returns-in-None
-returns-in-None c = split_none (λ b. b == 32) c.args.text.now (sym c.in-None.ensures)

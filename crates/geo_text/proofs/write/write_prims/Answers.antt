@@ -1,5 +1,0 @@
-use Rattle.geo_text.proofs.Writing.{prims_more}
-use Rattle.geo_text.proofs.write.write_prims.Goals as goal
-
-pub loop-prim-preserved : goal.loop-prim-preserved
-loop-prim-preserved g c = prims_more (g.V.GeoView.geo c.args.view.now).prims c.loop-prim.prim c.args.text.now.items c.loop-prim.text.items c.write_prim.new.text.items c.in_ok-write_prim.ensures c.loop-prim.invariant
