@@ -106,10 +106,11 @@ add_behind = refl
 null_hands_on : told (node type.Null [] (three ∷ [])) ≡ told three
 null_hands_on = refl
 
-switch_takes_one : told (node type.Switch ((codes "input", codes "1") ∷ []) (node type.Add [] [] ∷ three ∷ [])) ≡ told three
+-- of a switch the one that it takes is there
+switch_takes_one : told (node type.Switch ((codes "input", codes "1") ∷ []) (three ∷ [])) ≡ told three
 switch_takes_one = refl
 
-switch_needs_its_own : told (node type.Switch ((codes "input", codes "2") ∷ []) (three ∷ three ∷ [])) ≡ codes "NoInput 2"
+switch_needs_its_own : told (basic_geo by_pattern no_files type.Switch (with type.Switch ((codes "input", codes "2") ∷ [])) (None ∷ [])) ≡ codes "NoInput 2"
 unfolding digits
 switch_needs_its_own = refl
 

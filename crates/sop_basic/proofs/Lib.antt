@@ -15,3 +15,9 @@ pub mod ColumnLemmas
 pub mod EnumerateLemmas
 pub mod CreateLemmas
 pub mod CookLemmas
+pub mod GivingLemmas
+pub mod FileLemmas
+pub mod CornerLemmas
+pub mod GoodLemmas
+pub mod DeleteLemmas
+pub mod AddLemmas

@@ -175,7 +175,7 @@ point_outcome rule h i p r here is =
     ap (λ q. then_with (of_point i (rule i q)) (λ v. Ok (value_set h Point 0 i (value.Vector v)))) (place_in h.points i p here)
     ∙ ap (λ r. then_with (of_point i r) (λ v. Ok (value_set h Point 0 i (value.Vector v)))) is
 
-position_first : (heads : List Head) → BeginsWithPosition heads → (0 < length heads) × (option_map (λ h. h.kind) (slice_get heads 0) ≡ Some kind.Vector)
+pub position_first : (heads : List Head) → BeginsWithPosition heads → (0 < length heads) × (option_map (λ h. h.kind) (slice_get heads 0) ≡ Some kind.Vector)
 position_first [] begins = absurd (cc)
 position_first (h ∷ heads) begins = (omega arith, ap (λ (h : Head). Some h.kind) begins)
 

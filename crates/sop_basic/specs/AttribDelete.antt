@@ -5,7 +5,6 @@ use Rattle.std.specs.List.{list_any, items_where_true}
 use Rattle.sop_outside.specs.Blanks.{words_of}
 use Rattle.sop_model.specs.declared.class.Class.{Class}
 use Rattle.sop_model.specs.declared.geo.Geo.{Geo}
-use Rattle.sop_model.specs.declared.geo.Head.{Head}
 use Rattle.sop_model.specs.declared.geo.HeadSet.{HeadSet}
 use Rattle.sop_model.specs.declared.geo.Row.{Row}
 use Rattle.sop_model.specs.Geometry.{heads_of, rows_of}
@@ -16,12 +15,13 @@ use Rattle.sop_basic.specs.ParmTexts.{class_in}
 use Rattle.sop_basic.specs.Outcomes.{Outcome}
 use Rattle.sop_basic.specs.Heads.{is_position}
 
-abbrev pub stays : Class → List (List ℕ) → Head → Bool
-stays class words head = is_position class head.name || not (list_any (λ word. matches word head.name) words)
+-- whether the attribute of a name stays
+abbrev pub stays : Class → List (List ℕ) → List ℕ → Bool
+stays class words name = is_position class name || not (list_any (λ word. matches word name) words)
 
 -- for each attribute of the class whether it stays
 abbrev pub staying : Geo → Class → List (List ℕ) → List Bool
-staying g class words = map (stays class words) (heads_of g class).heads
+staying g class words = map (λ head. stays class words head.name) (heads_of g class).heads
 
 abbrev pub heads_left : List Bool → HeadSet → HeadSet
 heads_left stay set = record set { heads = items_where_true stay set.heads }

@@ -1,9 +1,9 @@
 -- What nodes of the basic types give, type by type: a geometry, or a fault. The types are `file`, `add`, `line`, `grid`, `box`, `null`,
 -- `switch`, `xform`, `attribcreate`, `attribdelete` and `enumerate`.
 --
--- A node has the texts of its parameters in the order of its type's, and its inputs by number, some of which may lack a geometry. A null gives
--- its input, a switch the one of the number `input`. A needed input that lacks one is NoInput. A geometry that passes a limit is Limit, after
--- every other fault.
+-- A node has the texts of its parameters in the order of its type's, and one input for each that it uses, by rising number, some of which
+-- may lack a geometry: of a switch the one of the number `input`, of every other node all of its type's. A null and a switch give their only
+-- input. A needed input that lacks a geometry is NoInput. A geometry that passes a limit is Limit, after every other fault.
 use Rattle.std.specs.Prelude.{ℕ, Bool, true, false, if◌then◌else◌, List, [], ◌∷◌, Option, None, Some, is_some, position, slice_get, Ok, Err, codes, bytes_eq}
 use Rattle.std.specs.Option.{option_and_then}
 use Rattle.sop_outside.specs.Blanks.{words_of}
@@ -50,7 +50,7 @@ maker_of type.Line = Some (λ select files parms inputs. line_geo parms)
 maker_of type.Grid = Some (λ select files parms inputs. grid_geo parms)
 maker_of type.Box = Some (λ select files parms inputs. box_geo parms)
 maker_of type.Null = Some (λ select files parms inputs. with_input inputs 0 Ok)
-maker_of type.Switch = Some (λ select files parms inputs. with_input inputs (count_in (parm_at parms 0)) Ok)
+maker_of type.Switch = Some (λ select files parms inputs. needing (count_in (parm_at parms 0)) (input_at inputs 0) Ok)
 maker_of type.Xform = Some (λ select files parms inputs. with_input inputs 0 (xform_geo select parms))
 maker_of type.AttribCreate = Some (λ select files parms inputs. with_input inputs 0 (attrib_create_geo select parms))
 maker_of type.AttribDelete = Some (λ select files parms inputs. with_input inputs 0 (attrib_delete_geo parms))

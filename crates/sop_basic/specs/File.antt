@@ -3,6 +3,10 @@
 use Rattle.std.specs.Prelude.{Result, Ok, Err}
 use Rattle.sop_model.specs.declared.geo.Geo.{Geo}
 use Rattle.sop_model.specs.declared.fault.Fault.TheVariants as fault
+use Rattle.sop_model.specs.declared.fault.CookStop.{CookStop}
+use Rattle.sop_model.specs.declared.fault.CookStop.TheVariants as stop
+use Rattle.geo_text.specs.declared.obj_fault.ObjFault.{ObjFault}
+use Rattle.geo_text.specs.declared.obj_fault.ObjFault.TheVariants as obj
 use Rattle.geo_text.specs.ObjMeaning.{meaning, Refusal, Number, Index, Limit}
 use Rattle.sop_basic.specs.declared.loaded.LoadedFile.{LoadedFile}
 use Rattle.sop_basic.specs.declared.loaded.LoadedFile.TheVariants.{Bytes, Missing, TooLong}
@@ -18,3 +22,10 @@ abbrev pub file_geo : LoadedFile → Outcome
 file_geo (Bytes bytes) = of_text (meaning bytes)
 file_geo Missing = Err fault.NoFile
 file_geo TooLong = Err fault.Limit
+
+-- what a text that gives no geometry is at a node
+abbrev pub stop_of_text : ObjFault → CookStop
+stop_of_text (obj.Number line) = stop.Fault (fault.Number line)
+stop_of_text (obj.Index line) = stop.Fault (fault.Index line)
+stop_of_text obj.Limit = stop.Fault fault.Limit
+stop_of_text obj.Memory = stop.Memory

@@ -18,4 +18,5 @@ pub mod Making
 pub mod Movements
 pub mod Rules
 pub mod Fillings
+pub mod Additions
 pub mod Cook

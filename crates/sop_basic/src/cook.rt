@@ -1,21 +1,28 @@
 // A basic node, by its type.
-ghost use Rattle.std.specs.Prelude.{◌≡◌, ℕ, Some, slice_get, IsTrue};
+ghost use Rattle.std.specs.Prelude.{◌≡◌, Some, slice_get, IsTrue, IfOk, OnErr, IsSomeAnd};
+ghost use Rattle.std.specs.Option.{option_and_then};
+ghost use Rattle.sop_model.specs.Geometry.{IsGood};
 ghost use Rattle.sop_outside.specs.Blanks.{words_of};
 ghost use Rattle.sop_net.specs.NodeTable.{parms_of};
 ghost use Rattle.sop_net.specs.Network.{AreValues};
-ghost use Rattle.sop_basic.specs.Loads.{FileMap};
+ghost use Rattle.sop_vault.specs.Keyed.{at};
+ghost use Rattle.sop_vault.specs.Vaults.{HoldsAsBefore};
+ghost use Rattle.sop_basic.specs.Loads.{file_in};
 ghost use Rattle.sop_basic.specs.Making.{Gives};
 ghost use Rattle.sop_basic.specs.Selecting.{everything};
-ghost use Rattle.sop_basic.specs.Basic.{basic_geo, basic_geo_now, has_pattern, has_word};
-ghost use Rattle.sop_basic.specs.Cook.{inputs_seen, needed_input, IsGiven, can_cook};
+ghost use Rattle.sop_basic.specs.Basic.{basic_geo, basic_geo_now, has_pattern, has_word, is_basic};
+ghost use Rattle.sop_basic.specs.Cook.{inputs_seen, needs_input, IsGiven, AreLive, AreGoodAt};
 
+use crate::add::cook_add;
 use crate::attrib_create::cook_attrib_create;
+use crate::attrib_delete::cook_attrib_delete;
 use crate::box_node::cook_box;
 use crate::enumerate::cook_enumerate;
+use crate::file::cook_file;
 use crate::grid::cook_grid;
 use crate::line::cook_line;
+use crate::loaded::Loaded;
 use crate::making::hand_on;
-use crate::parm_texts::count_in;
 use crate::xform::cook_xform;
 use sop_model::{CookStop, Fault};
 use sop_net::{NodeType, Parms};
@@ -23,24 +30,51 @@ use sop_outside::next_word;
 use sop_vault::{GeoKey, Vault};
 use std::alloc::Global;
 
-/// Cooks a node of a type that can be cooked by now, with inputs by number: a new key of what the node gives, where all else in the vault
-/// stays. `NotYet` where its `group` has a word, else the fault of the node. Want of memory may come at any time.
+/// Cooks a node of a basic type, with an input for each that it uses, by rising number (of a switch the one that it takes, of every
+/// other node all of its type's), and with the loads of files: a new key of what the node gives, well made where its inputs are, and all
+/// else in the vault stays. `NotYet` where its `group` has a word, else the fault of the node. Want of memory may come at any time. After
+/// an `Err` every key and its pages are as before.
 pub fn cook_basic<'b>(
     alloc: Global,
     vault: &mut Vault<'b>,
     node_type: NodeType,
     parms: &Parms,
     inputs: &[Option<GeoKey>],
+    loaded: &Loaded,
 ) -> Result<GeoKey, CookStop>
-    requires built { IsTrue (can_cook node_type) }
+    requires built { IsTrue (is_basic node_type) }
     requires values { AreValues (parms_of node_type) parms.now }
-    requires inputs { (i : ℕ) → needed_input node_type parms.now ≡ Some i → IsGiven vault.old inputs.now i }
-    ensures { (files : FileMap) → Gives vault.old vault.new (basic_geo_now files node_type parms.now (inputs_seen vault.old inputs.now)) result }
+    requires needed { IsTrue (needs_input node_type) → IsGiven inputs.now }
+    requires live { AreLive vault.old inputs.now }
+    ensures gives { Gives vault.old vault.new (basic_geo_now (file_in loaded.now) node_type parms.now (inputs_seen vault.old inputs.now)) result }
+    ensures err { OnErr result (HoldsAsBefore vault.old vault.new) }
+    ensures good { AreGoodAt vault.old inputs.now → IfOk result (λ key. IsSomeAnd (at vault.new.geos key) IsGood) }
+{
+    vault.is_vault();
+    let cooked = cook_now(alloc, vault, node_type, parms, inputs, loaded);
+    vault.is_vault();
+    cooked
+}
+
+/// The same, but that less is said of what is left.
+fn cook_now<'b>(
+    alloc: Global,
+    vault: &mut Vault<'b>,
+    node_type: NodeType,
+    parms: &Parms,
+    inputs: &[Option<GeoKey>],
+    loaded: &Loaded,
+) -> Result<GeoKey, CookStop>
+    requires built { IsTrue (is_basic node_type) }
+    requires values { AreValues (parms_of node_type) parms.now }
+    requires needed { IsTrue (needs_input node_type) → IsGiven inputs.now }
+    requires live { AreLive vault.old inputs.now }
+    ensures { Gives vault.old vault.new (basic_geo_now (file_in loaded.now) node_type parms.now (inputs_seen vault.old inputs.now)) result }
 {
     if has_pattern(node_type, parms) {
         return Err(CookStop::Fault(Fault::NotYet));
     }
-    cook_all(alloc, vault, node_type, parms, inputs)
+    cook_all(alloc, vault, node_type, parms, inputs, loaded)
 }
 
 /// The same where all elements are selected.
@@ -50,31 +84,46 @@ fn cook_all<'b>(
     node_type: NodeType,
     parms: &Parms,
     inputs: &[Option<GeoKey>],
+    loaded: &Loaded,
 ) -> Result<GeoKey, CookStop>
-    requires built { IsTrue (can_cook node_type) }
+    requires built { IsTrue (is_basic node_type) }
     requires values { AreValues (parms_of node_type) parms.now }
-    requires inputs { (i : ℕ) → needed_input node_type parms.now ≡ Some i → IsGiven vault.old inputs.now i }
-    ensures { (files : FileMap) → Gives vault.old vault.new (basic_geo everything files node_type parms.now (inputs_seen vault.old inputs.now)) result }
+    requires needed { IsTrue (needs_input node_type) → IsGiven inputs.now }
+    requires live { AreLive vault.old inputs.now }
+    ensures { Gives vault.old vault.new (basic_geo everything (file_in loaded.now) node_type parms.now (inputs_seen vault.old inputs.now)) result }
 {
     match node_type {
+        NodeType::File => cook_file(alloc, vault, parms, loaded),
+        NodeType::Add => cook_add(alloc, vault, parms, first(inputs)),
         NodeType::Line => cook_line(alloc, vault, parms),
         NodeType::Grid => cook_grid(vault, parms),
         NodeType::Box => cook_box(vault, parms),
-        NodeType::Null => hand_on(vault, given(inputs, 0)),
-        NodeType::Switch => hand_on(vault, given(inputs, count_in(parms.text(0)))),
-        NodeType::Xform => cook_xform(vault, parms, given(inputs, 0)),
-        NodeType::AttribCreate => cook_attrib_create(alloc, vault, parms, given(inputs, 0)),
-        NodeType::Enumerate => cook_enumerate(vault, parms, given(inputs, 0)),
+        NodeType::Null => hand_on(vault, given(inputs)),
+        NodeType::Switch => hand_on(vault, given(inputs)),
+        NodeType::Xform => cook_xform(vault, parms, given(inputs)),
+        NodeType::AttribCreate => cook_attrib_create(alloc, vault, parms, given(inputs)),
+        NodeType::AttribDelete => cook_attrib_delete(alloc, vault, parms, given(inputs)),
+        NodeType::Enumerate => cook_enumerate(vault, parms, given(inputs)),
         _ => unreachable!(),
     }
 }
 
-/// The key that is given for an input.
-fn given(inputs: &[Option<GeoKey>], input: u32) -> GeoKey
-    requires { (key : ℕ) × (slice_get inputs.now input ≡ Some (Some key)) }
-    ensures { slice_get inputs.now input ≡ Some (Some result) }
+/// The key that is given for the first input, where there is one.
+fn first(inputs: &[Option<GeoKey>]) -> Option<GeoKey>
+    ensures { result ≡ option_and_then (λ key. key) (slice_get inputs.now 0) }
 {
-    match inputs.get(input as usize) {
+    match inputs.first() {
+        Some(input) => *input,
+        None => None,
+    }
+}
+
+/// The key that is given for the first input.
+fn given(inputs: &[Option<GeoKey>]) -> GeoKey
+    requires { IsGiven inputs.now }
+    ensures { slice_get inputs.now 0 ≡ Some (Some result) }
+{
+    match inputs.first() {
         Some(Some(key)) => *key,
         _ => unreachable!(),
     }
@@ -82,7 +131,7 @@ fn given(inputs: &[Option<GeoKey>], input: u32) -> GeoKey
 
 /// Whether the `group` of a node has a word.
 fn has_pattern(node_type: NodeType, parms: &Parms) -> bool
-    requires built { IsTrue (can_cook node_type) }
+    requires built { IsTrue (is_basic node_type) }
     requires values { AreValues (parms_of node_type) parms.now }
     ensures { result ≡ has_pattern node_type parms.now }
 {

@@ -67,7 +67,8 @@ fn fill_one<'b>(
     }
 }
 
-fn set_value<'b>(
+/// Sets the value of one element under an attribute.
+pub fn set_value<'b>(
     vault: &mut Vault<'b>,
     key: GeoKey,
     class: Class,

@@ -2,10 +2,13 @@
 //! moved, and attributes that come, go and count.
 #![tactic(auto)]
 
+mod add;
 mod attrib_create;
+mod attrib_delete;
 mod box_node;
 mod cook;
 mod enumerate;
+mod file;
 mod filling;
 mod grid;
 mod heads;
@@ -13,6 +16,7 @@ mod line;
 mod loaded;
 mod making;
 mod movement;
+mod numbers;
 mod parm_texts;
 mod parts;
 mod quads;

@@ -1,6 +1,5 @@
 // `line`: points along a direction, and one open primitive through them.
-ghost use Rattle.std.specs.Prelude.{◌≡◌, ◌<◌, ◌≤◌, [], Some, Ok, IfOk, length, List};
-ghost use Rattle.std.specs.List.{range_with_len};
+ghost use Rattle.std.specs.Prelude.{◌≡◌, ◌<◌, ◌≤◌, [], Some, Ok, length, List};
 ghost use Rattle.sop_fixed.specs.declared.vec3.Vec3 as vector;
 ghost use Rattle.sop_model.specs.Limits.{most_points};
 ghost use Rattle.sop_model.specs.Geometry.{empty_geo};
@@ -16,13 +15,14 @@ ghost use Rattle.sop_basic.specs.Rules.{line_in, line_rule, tells_of_line, line_
 
 use crate::making::{add_prim, finish};
 use crate::movement::{Movement, make_points};
+use crate::numbers::numbers_between;
 use crate::parm_texts::{count_in, number_in, vector_in, zero};
 use crate::parts::part_of;
 use sop_fixed::{NumFault, Real, Vec3};
 use sop_model::CookStop;
 use sop_net::Parms;
 use sop_vault::{GeoKey, Vault};
-use std::alloc::{AllocError, Global};
+use std::alloc::Global;
 
 /// A line as its parameters tell of it.
 #[derive(Clone, Copy)]
@@ -124,16 +124,6 @@ fn add_through<'b>(
     requires many { (places : List vector.Vec3) → at vault.old.geos key ≡ Some (shape places []) → length places ≡ count }
     ensures { (places : List vector.Vec3) → at vault.old.geos key ≡ Some (shape places []) → Makes vault.old vault.new key (Ok (line_through places)) result }
 {
-    let numbers = numbers_below(alloc, count)?;
+    let numbers = numbers_between(alloc, 0, count)?;
     add_prim(vault, key, false, numbers.as_slice())
-}
-
-fn numbers_below(alloc: Global, count: u32) -> Result<Vec<u32>, AllocError>
-    ensures { IfOk result (λ numbers. numbers.items ≡ range_with_len 0 count) }
-{
-    let mut numbers = Vec::with_capacity(alloc, count as usize)?;
-    for number in 0..count {
-        numbers.push(number)?;
-    }
-    Ok(numbers)
 }

@@ -1,6 +1,6 @@
 // What the texts of parameters say.
-ghost use Rattle.std.specs.Prelude.{◌≡◌, ◌≤◌, ◌^◌};
-ghost use Rattle.sop_basic.specs.ParmTexts.{number_in, count_in, vector_in, class_in};
+ghost use Rattle.std.specs.Prelude.{◌≡◌, ◌<◌, ◌≤◌, ◌^◌, ◌∷◌, [], length, IfSome, IfNone};
+ghost use Rattle.sop_basic.specs.ParmTexts.{number_in, count_in, vector_in, vectors_in, class_in};
 ghost use Rattle.sop_model.specs.Values.{zero_vector};
 ghost use Rattle.std.specs.Prelude.{pos};
 
@@ -32,20 +32,33 @@ pub fn count_in(text: &str) -> u32
 pub fn vector_in(text: &str) -> Vec3
     ensures { result ≡ vector_in text.now }
 {
-    let Some((x, text)) = next_word(text.as_bytes()) else {
-        return zero_vector();
+    match next_vector(text.as_bytes()) {
+        Some((vector, _)) => vector,
+        None => zero_vector(),
+    }
+}
+
+/// The vector of the first three numerals of a text, and what stands behind them.
+pub fn next_vector(text: &[u8]) -> Option<(Vec3, &[u8])>
+    ensures vector { IfSome result (λ found. vectors_in text.now ≡ found.0 ∷ vectors_in found.1.now) }
+    ensures shorter { IfSome result (λ found. length found.1.now < length text.now) }
+    ensures none { IfNone result (vectors_in text.now ≡ []) }
+{
+    let Some((x, text)) = next_word(text) else {
+        return None;
     };
     let Some((y, text)) = next_word(text) else {
-        return zero_vector();
+        return None;
     };
-    let Some((z, _)) = next_word(text) else {
-        return zero_vector();
+    let Some((z, text)) = next_word(text) else {
+        return None;
     };
-    Vec3 {
+    let vector = Vec3 {
         x: number_in(x),
         y: number_in(y),
         z: number_in(z),
-    }
+    };
+    Some((vector, text))
 }
 
 /// The class that a word names.

@@ -1,18 +1,14 @@
-use Rattle.std.proofs.Common.{ap, sym, ◌∙◌, subst, Err}
-use Rattle.std.specs.Prelude.{if◌then◌else◌}
-use Rattle.sop_model.specs.declared.fault.Fault.TheVariants.{NotYet}
-use Rattle.sop_basic.specs.Making.{Gives}
-use Rattle.sop_basic.specs.Selecting.{everything}
-use Rattle.sop_basic.specs.Basic.{basic_geo}
+use Rattle.sop_basic.specs.Loads.{file_in}
+use Rattle.sop_basic.specs.Basic.{basic_geo_now}
 use Rattle.sop_basic.specs.Cook.{inputs_seen}
-use Rattle.sop_basic.proofs.MakingLemmas.{kept_same}
+use Rattle.sop_basic.proofs.GivingLemmas.{as_before}
+use Rattle.sop_basic.proofs.GoodLemmas.{good_made}
 use Rattle.sop_basic.proofs.cook.cook_basic.Goals as goal
 
-pub returns-then-has_pattern : goal.returns-then-has_pattern
-returns-then-has_pattern c = λ files.
-    (ap (λ b. if b then Err NotYet else basic_geo everything files c.args.node_type c.args.parms.now (inputs_seen c.args.vault.now c.args.inputs.now)) (sym c.has_pattern.ensures ∙ c.if-has_pattern.true), kept_same c.args.vault.now)
+pub returns-clause-err : goal.returns-clause-err
+returns-clause-err c =
+    as_before c.args.vault.now c.cook_now-cooked.new.vault (basic_geo_now (file_in c.args.loaded.now) c.args.node_type c.args.parms.now (inputs_seen c.args.vault.now c.args.inputs.now)) c.cook_now-cooked.result c.is_vault.ensures c.is_vault-2.ensures c.cook_now-cooked.ensures
 
-pub returns : goal.returns
-returns c = λ files.
-    let outcome = basic_geo everything files c.args.node_type c.args.parms.now (inputs_seen c.args.vault.now c.args.inputs.now) in
-    subst (λ b. Gives c.args.vault.now c.cook_all.new.vault (if b then Err NotYet else outcome) c.cook_all.result) (sym (sym c.has_pattern.ensures ∙ c.if-has_pattern.false)) (c.cook_all.ensures files)
+pub returns-clause-good : goal.returns-clause-good
+returns-clause-good c =
+    good_made c.args.vault.now c.cook_now-cooked.new.vault (file_in c.args.loaded.now) c.args.node_type c.args.parms.now c.args.inputs.now c.cook_now-cooked.result c.is_vault-2.ensures c.requires.values c.cook_now-cooked.ensures

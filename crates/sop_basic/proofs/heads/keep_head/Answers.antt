@@ -1,5 +1,5 @@
 use Rattle.std.proofs.Common.{◌≡◌, ap, sym, ◌∙◌, subst, Some, None, Ok, ℕ, true, false, refl}
-use Rattle.std.specs.Prelude.{IfSome, if◌then◌else◌}
+use Rattle.std.specs.Prelude.{IsSomeAnd, if◌then◌else◌}
 use Rattle.sop_model.specs.declared.geo.Head.{Head}
 use Rattle.sop_model.specs.declared.geo.Geo.{Geo}
 use Rattle.sop_model.specs.Rows.{head_named, kind_at, attr_added, attr_deleted}
@@ -28,8 +28,8 @@ add_head-requires-clause-free c = λ h there.
     let g = c.view.result in
     let deleted = λ (n : ℕ). Changed c.args.vault.now c.del_attr.new.self c.args.key (Some (attr_deleted g c.args.class n)) in
     let named = c.requires.there g c.view.ensures.geo in
-    let ch : deleted c.args.head = subst (λ o. IfSome o deleted) named
-    (if_there (at c.args.vault.now.geos c.args.key) (λ (g : Geo). IfSome (head_named g c.args.class c.args.name.now) (λ n. Changed c.args.vault.now c.del_attr.new.self c.args.key (Some (attr_deleted g c.args.class n)))) g c.view.ensures.geo c.in_default.ensures.ok) in
+    let ch : deleted c.args.head = subst (λ o. IsSomeAnd o deleted) named
+    (if_there (at c.args.vault.now.geos c.args.key) (λ (g : Geo). IsSomeAnd (head_named g c.args.class c.args.name.now) (λ n. Changed c.args.vault.now c.del_attr.new.self c.args.key (Some (attr_deleted g c.args.class n)))) g c.view.ensures.geo c.in_default.ensures.ok) in
     subst (λ (x : Geo). head_named x c.args.class c.args.name.now ≡ None) (same_there (at c.del_attr.new.self.geos c.args.key) (attr_deleted g c.args.class c.args.head) h ch.geos.here there)
     (deleted_free c.args.name.now g c.args.class c.args.head (c.view.ensures.readable.sound.named c.args.class).distinct_heads named)
 
@@ -40,8 +40,8 @@ returns c = λ g there.
     let mid = c.del_attr.new.self in
     let gone = attr_deleted g c.args.class c.args.head in
     let named = c.requires.there g there in
-    let ch : Changed old mid c.args.key (Some gone) = subst (λ o. IfSome o (λ n. Changed old mid c.args.key (Some (attr_deleted g c.args.class n)))) named
-    (if_there (at old.geos c.args.key) (λ (g : Geo). IfSome (head_named g c.args.class c.args.name.now) (λ n. Changed old mid c.args.key (Some (attr_deleted g c.args.class n)))) g there c.in_default.ensures.ok) in
+    let ch : Changed old mid c.args.key (Some gone) = subst (λ o. IsSomeAnd o (λ n. Changed old mid c.args.key (Some (attr_deleted g c.args.class n)))) named
+    (if_there (at old.geos c.args.key) (λ (g : Geo). IsSomeAnd (head_named g c.args.class c.args.name.now) (λ n. Changed old mid c.args.key (Some (attr_deleted g c.args.class n)))) g there c.in_default.ensures.ok) in
     let same = same_there (at old.geos c.args.key) c.view.result g c.view.ensures.geo there in
     let kind : kind_at g c.args.class c.args.head ≡ Some c.head_kind.result = subst (λ (x : Geo). kind_at x c.args.class c.args.head ≡ Some c.head_kind.result) same c.head_kind.ensures in
     let is : is_kind c.args.kind (Some c.head_kind.result) ≡ false = sym c.is_kind.ensures ∙ c.if-is_kind.false in
