@@ -1,15 +1,18 @@
 -- A cook that goes on.
-use Rattle.std.proofs.Common.{◌≡◌, ℕ, zero, suc, ◌<◌, ◌≤◌, List, [], ◌∷◌, length, get_or, refl, sym, ◌∙◌, ap, subst, arith}
-use Rattle.std.specs.Prelude.{Option, None, Some, IfSome, Contains, option_map}
+use Rattle.std.proofs.Common.{◌≡◌, Bool, true, ℕ, zero, suc, ◌<◌, ◌≤◌, List, [], ◌∷◌, length, get_or, refl, sym, ◌∙◌, ap, subst, arith}
+use Rattle.std.specs.Prelude.{All, Option, None, Some, IfSome, IsSome, IsTrue, Contains, option_map}
+use Rattle.std.proofs.lemmas.List.Elements.{All-head, All-tail}
 use Rattle.sop_net.specs.Network.{node_of, wired, wire_at, used_wires, used_sources}
-use Rattle.sop_net.specs.Sockets.{Socket, sockets_of}
+use Rattle.sop_net.specs.Sockets.{Socket, sockets_from, sockets_of}
 use Rattle.sop_net.proofs.UsedLemmas.{wired_at}
 use Rattle.sop_net.specs.declared.node.Node.{Node}
+use Rattle.sop_net.specs.declared.node_type.NodeType.{NodeType}
 use Rattle.sop_cook.specs.declared.serial.Cooking.{Cooking}
 use Rattle.sop_basic.specs.Loads.{file_in}
 use Rattle.sop_cook.specs.Visit.{Outcome}
 use Rattle.sop_cook.specs.SerialCook.{cook_of}
-use Rattle.sop_cook.specs.Parts.{IsKept}
+use Rattle.sop_cook.specs.Made.{is_built}
+use Rattle.sop_cook.specs.Parts.{IsKept, AreFilled}
 use Rattle.sop_pages.specs.Moves.{times}
 use Rattle.sop_vault.specs.Keyed.{at}
 use Rattle.sop_vault.specs.Vaults.{VaultMap}
@@ -59,3 +62,17 @@ pub source_there : (nodes : List Node) (x i : ℕ) (wires : List (Option ℕ)) (
 source_there nodes x i wires None d used lt is = tt
 source_there nodes x i wires (Some source) d used lt is =
     subst (λ ws. Contains (wired ws) source) used (wired_at wires i source (wire_there wires i d lt ∙ sym is))
+
+-- keys for so many sockets
+pub filled_from : (first : ℕ) (is_needed : Bool) (wires keys : List (Option ℕ)) → length keys ≡ length wires → All (λ key. IsTrue is_needed → IsSome key) keys → AreFilled (sockets_from first is_needed wires) keys
+filled_from first is_needed [] [] same all = tt
+filled_from first is_needed [] (key ∷ keys) same all = omega (arith, same)
+filled_from first is_needed (wire ∷ wires) [] same all = omega (arith, same)
+filled_from first is_needed (wire ∷ wires) (key ∷ keys) same all =
+    let P : Option ℕ → Type 0 = λ key. IsTrue is_needed → IsSome key in
+    (All-head P key keys all, filled_from (suc first) is_needed wires keys (omega (arith, same)) (All-tail P key keys all))
+
+-- a node of a type that is built
+pub built_known : (found : Option Node) (t : NodeType) → option_map (λ n. n.node_type) found ≡ Some t → is_built t ≡ true → IfSome found (λ n. IsTrue (is_built n.node_type))
+built_known None t typed built = tt
+built_known (Some n) t typed built = let same : n.node_type ≡ t = cc in ap is_built same ∙ built

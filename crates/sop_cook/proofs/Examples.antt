@@ -29,7 +29,9 @@ nodes =
     ∷ node 6 type.Switch (codes "2" ∷ []) (Some 2 ∷ Some 3 ∷ [])
     ∷ node 7 type.Merge [] (None ∷ Some 0 ∷ None ∷ Some 5 ∷ [])
     ∷ node 8 type.Merge [] (Some 3 ∷ Some 2 ∷ Some 1 ∷ [])
-    ∷ node 9 type.Box [] []
+    ∷ node 9 type.Blast [] (None ∷ [])
+    ∷ node 11 type.Xform (codes "0 0 0" ∷ codes "1 1 1" ∷ [] ∷ []) (None ∷ [])
+    ∷ node 12 type.Xform (codes "0 0 0" ∷ codes "1 1 1" ∷ codes "g" ∷ []) (Some 0 ∷ [])
     ∷ node 10 type.CopyToPoints [] (Some 1 ∷ None ∷ [])
     ∷ []
 
@@ -62,6 +64,12 @@ the_first_fault_wins = refl
 a_type_that_is_not_built : cook_of files nodes 9 ≡ Err (failed 9 fault.NotYet)
 a_type_that_is_not_built = refl
 
+an_unwired_input_of_a_basic_node : cook_of files nodes 11 ≡ Err (failed 11 (fault.NoInput 0))
+an_unwired_input_of_a_basic_node = refl
+
+a_pattern_that_is_not_read : cook_of files nodes 12 ≡ Err (failed 12 fault.NotYet)
+a_pattern_that_is_not_read = refl
+
 -- although its inputs have faults
 a_type_that_is_not_built_asks_for_nothing : visit files 10 (Some (node 10 type.CopyToPoints [] (Some 1 ∷ None ∷ []))) ≡ Visit.Give (Err (failed 10 fault.NotYet))
 a_type_that_is_not_built_asks_for_nothing = refl
@@ -70,13 +78,13 @@ abbrev socket : ℕ → Bool → Option ℕ → Socket
 socket input is_needed wire = record { input = input; is_needed = is_needed; wire = wire }
 
 abbrev asked : List Socket → Outcome
-asked sockets = run (cook_of files nodes) (ask_all 11 sockets (λ inputs. Visit.Give (Ok empty_geo)))
+asked sockets = run (cook_of files nodes) (ask_all 13 sockets (λ inputs. Visit.Give (Ok empty_geo)))
 
 -- NoInput comes in its turn: behind the fault of a lower input, before that of a higher one
 an_unwired_input_behind_a_fault : asked (socket 0 true (Some 1) ∷ socket 1 true None ∷ []) ≡ Err (failed 1 fault.Limit)
 an_unwired_input_behind_a_fault = refl
 
-an_unwired_input_before_a_fault : asked (socket 0 true None ∷ socket 1 true (Some 1) ∷ []) ≡ Err (failed 11 (fault.NoInput 0))
+an_unwired_input_before_a_fault : asked (socket 0 true None ∷ socket 1 true (Some 1) ∷ []) ≡ Err (failed 13 (fault.NoInput 0))
 an_unwired_input_before_a_fault = refl
 
 an_optional_input_before_a_fault : asked (socket 0 false None ∷ socket 1 false (Some 1) ∷ []) ≡ Err (failed 1 fault.Limit)

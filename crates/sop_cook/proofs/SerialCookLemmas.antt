@@ -7,8 +7,8 @@ use Rattle.sop_model.specs.declared.fault.Fault.TheVariants as fault
 use Rattle.sop_model.specs.Faults.{has_named_node}
 use Rattle.sop_model.specs.Geometry.{fits}
 use Rattle.sop_model.specs.Merge.{merged}
-use Rattle.geo_text.specs.ObjReading.{obj_geo, Refusal}
-use Rattle.geo_text.specs.ObjForm.{has_first_form}
+use Rattle.geo_text.specs.ObjMeaning as refusal
+use Rattle.geo_text.specs.ObjMeaning.{meaning, Refusal}
 use Rattle.sop_net.specs.Graph.{Steps, Reaches, Within}
 use Rattle.sop_net.specs.declared.node_type.NodeType.{NodeType}
 use Rattle.sop_net.specs.declared.node_type.NodeType.TheVariants as type
@@ -18,10 +18,13 @@ use Rattle.sop_net.specs.Needs.{file_of_node, file_of_type}
 use Rattle.sop_basic.specs.declared.loaded.LoadedFile.{LoadedFile}
 use Rattle.sop_basic.specs.declared.loaded.LoadedFile.TheVariants.{Bytes, Missing, TooLong}
 use Rattle.sop_basic.specs.Loads.{FileMap}
-use Rattle.sop_cook.specs.Made.{unrefused, file_geo, merge_geo, given, only, maker_of, made_by, made}
+use Rattle.sop_basic.specs.File.{of_text, file_geo}
+use Rattle.sop_basic.specs.Basic.{basic_geo_now}
+use Rattle.sop_cook.specs.Made.{merge_geo, given, maker_of, made}
 use Rattle.sop_cook.specs.Visit.{Outcome, Failure, failed, at_node, Visit, visit}
 use Rattle.sop_cook.specs.SerialCook.{run, cooked, cook_of}
 use Rattle.sop_cook.specs.Laws.{Asks, IsUsedWire, AreAlike, IsMissing}
+use Rattle.sop_cook.proofs.BasicFaults.{Fails, HoldsOfOwn, basic_fails}
 use Rattle.sop_cook.proofs.VisitLemmas.{visit_asks, Ends, visit_ends, run_ends, same_run, same_visit}
 
 -- what is asked of a visit, where it holds of each used wire
@@ -106,19 +109,37 @@ same_within files others nodes (suc depth) x alike =
 pub same_cook : (files others : FileMap) (nodes : List Node) (x : ℕ) → AreAlike files others nodes x → cook_of files nodes x ≡ cook_of others nodes x
 same_cook files others nodes x alike = same_within files others nodes (length nodes) x alike
 
--- only a file that is missing makes NoFile
-file_missing : (file : LoadedFile) → file_geo file ≡ Err fault.NoFile → file ≡ Missing
-file_missing (Bytes bytes) h = absurd (by (has_first_form bytes) h)
-  where
-    read : (r : Result Geo Refusal) → unrefused r ≡ Err fault.NoFile → ⊥
-    read (Ok g) e = cc
-    read (Err refusal) e = cc
+-- ONLY A FILE THAT IS MISSING MAKES NOFILE
 
-    by : (b : Bool) → (if b then unrefused (obj_geo bytes) else Err fault.NotYet) ≡ Err fault.NoFile → ⊥
-    by true e = read (obj_geo bytes) e
-    by false e = cc
-file_missing Missing h = refl
-file_missing TooLong h = let no : ⊥ = cc in absurd no
+-- a fault that is NoFile tells that the file of a file node is missing
+abbrev TellsMissing : FileMap → NodeType → List (List ℕ) → Fault → Type 0
+TellsMissing files t parms f = f ≡ fault.NoFile → (t ≡ type.File) × (files (parm_at parms 0) ≡ Missing)
+
+own_missing : (files : FileMap) (t : NodeType) (parms : List (List ℕ)) → HoldsOfOwn (TellsMissing files t parms)
+own_missing files t parms = record {
+  not_yet = λ e. let no : ⊥ = cc in absurd no;
+  no_input = λ i e. let no : ⊥ = cc in absurd no;
+  bad_parm = λ e. let no : ⊥ = cc in absurd no;
+  range = λ i e. let no : ⊥ = cc in absurd no;
+  limit = λ e. let no : ⊥ = cc in absurd no;
+}
+
+file_missing : (files : FileMap) (t : NodeType) (parms : List (List ℕ)) → t ≡ type.File → Fails (TellsMissing files t parms) (file_geo (files (parm_at parms 0)))
+file_missing files t parms is = by (files (parm_at parms 0)) refl
+  where
+    read : (r : Result Geo Refusal) → Fails (TellsMissing files t parms) (of_text r)
+    read (Ok g) = tt
+    read (Err (refusal.Number line)) = λ e. let no : ⊥ = cc in absurd no
+    read (Err (refusal.Index line)) = λ e. let no : ⊥ = cc in absurd no
+    read (Err refusal.Limit) = λ e. let no : ⊥ = cc in absurd no
+
+    by : (file : LoadedFile) → files (parm_at parms 0) ≡ file → Fails (TellsMissing files t parms) (file_geo file)
+    by (Bytes bytes) e = read (meaning bytes)
+    by Missing e = λ f. (is, e)
+    by TooLong e = λ f. let no : ⊥ = cc in absurd no
+
+fails_as : (P : Fault → Type 0) (r : Result Geo Fault) (f : Fault) → Fails P r → r ≡ Err f → P f
+fails_as P r f fails is = subst (Fails P) is fails
 
 merge_finds : (gs : List Geo) → merge_geo gs ≡ Err fault.NoFile → ⊥
 merge_finds gs h = by (fits (merged gs)) h
@@ -127,17 +148,14 @@ merge_finds gs h = by (fits (merged gs)) h
     by true e = cc
     by false e = cc
 
-only_finds : (inputs : List (Option Geo)) → only inputs ≡ Err fault.NoFile → ⊥
-only_finds [] h = cc
-only_finds (Some g ∷ inputs) h = cc
-only_finds (None ∷ inputs) h = cc
+basic_missing : (files : FileMap) (t : NodeType) (n : Node) (inputs : List (Option Geo)) → basic_geo_now files t n.parms inputs ≡ Err fault.NoFile → (file_of_type t n ≡ Some (parm_at n.parms 0)) × (files (parm_at n.parms 0) ≡ Missing)
+basic_missing files t n inputs h =
+    let told = fails_as (TellsMissing files t n.parms) (basic_geo_now files t n.parms inputs) fault.NoFile (basic_fails (TellsMissing files t n.parms) (own_missing files t n.parms) files t n.parms inputs (file_missing files t n.parms)) h refl in
+    (ap (λ t. file_of_type t n) told.0, told.1)
 
-made_missing : (files : FileMap) (n : Node) (t : NodeType) (inputs : List (Option Geo)) → made_by (maker_of t) files n inputs ≡ Err fault.NoFile → (file_of_type t n ≡ Some (parm_at n.parms 0)) × (files (parm_at n.parms 0) ≡ Missing)
-made_missing files n type.File inputs h = (refl, file_missing (files (parm_at n.parms 0)) h)
+made_missing : (files : FileMap) (n : Node) (t : NodeType) (inputs : List (Option Geo)) → maker_of t files n inputs ≡ Err fault.NoFile → (file_of_type t n ≡ Some (parm_at n.parms 0)) × (files (parm_at n.parms 0) ≡ Missing)
 made_missing files n type.Merge inputs h = absurd (merge_finds (given inputs) h)
-made_missing files n type.Null inputs h = absurd (only_finds inputs h)
-made_missing files n type.Switch inputs h = absurd (only_finds inputs h)
-made_missing files n other inputs h = let no : ⊥ = cc in absurd no
+made_missing files n other inputs h = basic_missing files other n inputs h
 
 -- a cook gives NoFile only at a node whose file is missing
 pub no_file : (files : FileMap) (nodes : List Node) (x : ℕ) → Within (used_sources nodes) (length nodes) x → (y : ℕ) → cook_of files nodes x ≡ Err (failed y fault.NoFile) → IsMissing files nodes x y
@@ -150,44 +168,37 @@ no_file files nodes x within y h =
     record { reached = r; name = parm_at n.parms 0; file = ap file_of_node found ∙ own.0; missing = own.1 })
     (failed y fault.NoFile) h refl
 
--- the fault of a node names no node but by its name
-abbrev IsNamed : Result Geo Fault → Type 0
-IsNamed (Ok g) = ⊤
-IsNamed (Err f) = IsTrue (has_named_node f)
+-- A FAULT NAMES NO NODE BUT BY ITS NAME
 
-file_named : (file : LoadedFile) → IsNamed (file_geo file)
-file_named (Bytes bytes) = by (has_first_form bytes)
+abbrev IsNamed : Fault → Type 0
+IsNamed f = IsTrue (has_named_node f)
+
+own_named : HoldsOfOwn IsNamed
+own_named = record { not_yet = refl; no_input = λ i. refl; bad_parm = refl; range = λ i. refl; limit = refl }
+
+file_named : (file : LoadedFile) → Fails IsNamed (file_geo file)
+file_named (Bytes bytes) = read (meaning bytes)
   where
-    read : (r : Result Geo Refusal) → IsNamed (unrefused r)
+    read : (r : Result Geo Refusal) → Fails IsNamed (of_text r)
     read (Ok g) = tt
-    read (Err refusal) = refl
-
-    by : (b : Bool) → IsNamed (if b then unrefused (obj_geo bytes) else Err fault.NotYet)
-    by true = read (obj_geo bytes)
-    by false = refl
+    read (Err (refusal.Number line)) = refl
+    read (Err (refusal.Index line)) = refl
+    read (Err refusal.Limit) = refl
 file_named Missing = refl
 file_named TooLong = refl
 
-merge_named : (gs : List Geo) → IsNamed (merge_geo gs)
+merge_named : (gs : List Geo) → Fails IsNamed (merge_geo gs)
 merge_named gs = by (fits (merged gs))
   where
-    by : (b : Bool) → IsNamed (if b then Ok (merged gs) else Err fault.Limit)
+    by : (b : Bool) → Fails IsNamed (if b then Ok (merged gs) else Err fault.Limit)
     by true = tt
     by false = refl
 
-only_named : (inputs : List (Option Geo)) → IsNamed (only inputs)
-only_named [] = refl
-only_named (Some g ∷ inputs) = tt
-only_named (None ∷ inputs) = refl
-
-made_named : (files : FileMap) (n : Node) (t : NodeType) (inputs : List (Option Geo)) → IsNamed (made_by (maker_of t) files n inputs)
-made_named files n type.File inputs = file_named (files (parm_at n.parms 0))
+made_named : (files : FileMap) (n : Node) (t : NodeType) (inputs : List (Option Geo)) → Fails IsNamed (maker_of t files n inputs)
 made_named files n type.Merge inputs = merge_named (given inputs)
-made_named files n type.Null inputs = only_named inputs
-made_named files n type.Switch inputs = only_named inputs
-made_named files n other inputs = refl
+made_named files n other inputs = basic_fails IsNamed own_named files other n.parms inputs (λ is. file_named (files (parm_at n.parms 0)))
 
 pub failure_named : (files : FileMap) (nodes : List Node) (x : ℕ) → Within (used_sources nodes) (length nodes) x → (f : Failure) → cook_of files nodes x ≡ Err f → IsTrue (has_named_node f.fault)
 failure_named files nodes x within =
     cook_fails (λ f. IsTrue (has_named_node f.fault)) files nodes x within (λ y input r. refl) (λ y r. refl)
-    (λ y n inputs f r found is. subst IsNamed is (made_named files n n.node_type inputs))
+    (λ y n inputs f r found is. fails_as IsNamed (made files n inputs) f (made_named files n n.node_type inputs) is)

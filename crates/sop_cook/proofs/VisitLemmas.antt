@@ -12,7 +12,9 @@ use Rattle.sop_net.specs.Network.{node_of, wire_at, wires_of, parm_at, switch_in
 use Rattle.sop_net.specs.Sockets.{Socket, sockets_from, first_used, needs_inputs, sockets_of}
 use Rattle.sop_net.proofs.UsedLemmas.{wired_at}
 use Rattle.sop_basic.specs.Loads.{FileMap}
-use Rattle.sop_cook.specs.Made.{file_geo, maker_of, made_by, made, is_built}
+use Rattle.sop_basic.specs.Outcomes.{limited}
+use Rattle.sop_basic.specs.File.{file_geo}
+use Rattle.sop_cook.specs.Made.{maker_of, made, is_built}
 use Rattle.sop_cook.specs.Visit.{Outcome, failed, at_node, Visit, ask, ask_all, visit_if, visit}
 use Rattle.sop_cook.specs.SerialCook.{then_with, run}
 use Rattle.sop_cook.specs.Laws.{Asks, IsUsedWire}
@@ -111,8 +113,8 @@ same_run f g (Visit.Ask input source more) same =
     ap (λ r. then_with r (λ geo. run f (more geo))) same.0
     ∙ same_then (g source) (λ geo. run f (more geo)) (λ geo. run g (more geo)) (λ geo. same_run f g (more geo) (same.1 geo))
 
-same_made : (files others : FileMap) (n : Node) (t : NodeType) → (t ≡ type.File → files (parm_at n.parms 0) ≡ others (parm_at n.parms 0)) → (inputs : List (Option Geo)) → made_by (maker_of t) files n inputs ≡ made_by (maker_of t) others n inputs
-same_made files others n type.File file inputs = ap file_geo (file refl)
+same_made : (files others : FileMap) (n : Node) (t : NodeType) → (t ≡ type.File → files (parm_at n.parms 0) ≡ others (parm_at n.parms 0)) → (inputs : List (Option Geo)) → maker_of t files n inputs ≡ maker_of t others n inputs
+same_made files others n type.File file inputs = ap (λ load. limited (file_geo load)) (file refl)
 same_made files others n other file inputs = refl
 
 -- a node's visit is the same where its file is

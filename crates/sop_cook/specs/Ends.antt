@@ -2,7 +2,7 @@
 use Rattle.std.specs.Prelude.{◌≡◌, ℕ, ⊤, List, Result, Ok, Err, IsTrue, unwrap_or}
 use Rattle.sop_model.specs.declared.geo.Geo.{Geo}
 use Rattle.sop_model.specs.Faults.{has_named_node}
-use Rattle.sop_model.specs.Geometry.{empty_geo, IsGood, Fits, HasOnlyPosition}
+use Rattle.sop_model.specs.Geometry.{empty_geo, IsGood, Fits}
 use Rattle.sop_vault.specs.Keyed.{at}
 use Rattle.sop_vault.specs.Vaults.{VaultMap}
 use Rattle.sop_net.specs.declared.node.Node.{Node}
@@ -26,11 +26,10 @@ abbrev pub seen : {E : Type 0} → VaultMap → Result ℕ E → Result Geo E
 seen v (Ok key) = Ok (geo_at v key)
 seen v (Err e) = Err e
 
--- a well made geometry within its limits that has `P` alone
+-- a well made geometry within its limits
 pub record IsReady (g : Geo) : Type 0 where
   pub good : IsGood g
   pub fits : Fits g
-  pub position : HasOnlyPosition g
 
 -- the node of a fault stands
 abbrev pub IsAtLive : List Node → CookEnd → Type 0

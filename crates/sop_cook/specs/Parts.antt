@@ -1,11 +1,11 @@
 -- What the parts of a cook ensure, and what a cook keeps of finished nodes. For private contracts.
-use Rattle.std.specs.Prelude.{◌≡◌, ℕ, ⊤, List, Option, Some, Result, Ok, Err, length, None, slice_get, slice_set, All, IsSomeAnd}
+use Rattle.std.specs.Prelude.{◌≡◌, ℕ, ⊤, List, [], ◌∷◌, Option, Some, Result, Ok, Err, length, None, slice_get, slice_set, All, IsSome, IsSomeAnd, IsTrue}
 use Rattle.sop_model.specs.declared.geo.Geo.{Geo}
 use Rattle.sop_model.specs.declared.fault.Fault as fault
 use Rattle.sop_model.specs.declared.fault.Fault.TheVariants as variant
 use Rattle.sop_model.specs.declared.fault.CookStop.{CookStop}
 use Rattle.sop_model.specs.declared.fault.CookStop.TheVariants as stop
-use Rattle.sop_model.specs.Geometry.{IsWithin}
+use Rattle.sop_model.specs.Geometry.{IsGood, IsWithin}
 use Rattle.sop_model.specs.Appending.{appended}
 use Rattle.sop_model.specs.Merge.{merged}
 use Rattle.sop_vault.specs.declared.vault_end.VaultEnd.{VaultEnd}
@@ -14,6 +14,7 @@ use Rattle.sop_vault.specs.Keyed.{at}
 use Rattle.sop_vault.specs.Vaults.{VaultMap}
 use Rattle.sop_net.specs.declared.node.Node.{Node}
 use Rattle.sop_net.specs.Network.{place_of}
+use Rattle.sop_net.specs.Sockets.{Socket}
 use Rattle.sop_cook.specs.declared.cook_end.CookEnd.{CookEnd}
 use Rattle.sop_cook.specs.declared.cook_end.CookEnd.TheVariants as end
 use Rattle.sop_cook.specs.declared.kept.Kept.{Kept}
@@ -21,11 +22,12 @@ use Rattle.sop_cook.specs.Visit.{Outcome, failed, Visit}
 use Rattle.sop_cook.specs.SerialCook.{run}
 use Rattle.sop_cook.specs.Ends.{IsReady}
 
--- the geometries so far were merged
+-- the geometries so far were merged, whatever the values weigh
 pub record Merged (gs : List Geo) (into : Geo) : Type 0 where
   pub merge : merged gs ≡ into
   pub inputs : All IsReady gs
-  pub ready : IsReady into
+  pub good : IsGood into
+  pub within : IsWithin into
 
 -- the code answers exactly what one node makes, or want of memory
 abbrev pub TellsMade : Result Geo fault.Fault → Result Geo CookStop → Type 0
@@ -75,3 +77,10 @@ pub record IsShareKept (v : VaultMap) (old : List (Option ℕ)) (x : ℕ) (g : O
   pub here : at v.geos key ≡ g
   pub was : slice_get old x ≡ Some None
   pub now : new ≡ slice_set old x (Some key)
+
+-- a key for each socket, but that an input that isn't needed may have none
+abbrev pub AreFilled : List Socket → List (Option ℕ) → Type 0
+AreFilled [] [] = ⊤
+AreFilled [] (key ∷ keys) = ⊥
+AreFilled (s ∷ sockets) [] = ⊥
+AreFilled (s ∷ sockets) (key ∷ keys) = (IsTrue s.is_needed → IsSome key) × AreFilled sockets keys

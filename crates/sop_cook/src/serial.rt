@@ -1,5 +1,5 @@
 //! The serial cook of a network. Each node that is needed is cooked once.
-ghost use Rattle.std.specs.Prelude.{◌≡◌, ℕ, ◌∷◌, ◌++◌, All, Contains, IfErr, IfOk, IfSome, OnErr, IsSomeAnd, Ok, Result, option_map, option_to_list};
+ghost use Rattle.std.specs.Prelude.{◌≡◌, ℕ, ◌∷◌, ◌++◌, All, Contains, IfErr, IfOk, IfSome, IsTrue, OnErr, IsSome, IsSomeAnd, Ok, Result, option_map, option_to_list};
 ghost use Rattle.sop_model.specs.declared.geo.Geo.{Geo};
 ghost use Rattle.sop_model.specs.declared.fault.Fault.{Fault};
 ghost use Rattle.sop_net.specs.Graph.{Within};
@@ -14,7 +14,7 @@ ghost use Rattle.sop_cook.specs.SerialCook.{cook_of};
 ghost use Rattle.sop_cook.specs.Laws.{IsMissing};
 ghost use Rattle.sop_cook.specs.Ends.{HasNamedNode, IsAtLive, Tells, IsReady, geo_at, seen};
 ghost use Rattle.sop_cook.specs.Keys.{inputs_seen, keys_in, key_of, IsReadyAt};
-ghost use Rattle.sop_cook.specs.Parts.{TellsMade, GoesOn, EndsSo};
+ghost use Rattle.sop_cook.specs.Parts.{AreFilled, TellsMade, GoesOn, EndsSo};
 ghost use Rattle.sop_cook.specs.Cooking.{nodes_of, keys_of, gives, IsRunning, RunsOn};
 
 use crate::cook_end::CookEnd;
@@ -168,6 +168,7 @@ impl<'a> Cooking<'a> {
         ensures on { RunsOn self.old vault.new self.new }
         ensures ok { IfOk result (λ inputs. IfSome (node_of (nodes_of self.old) node) (λ n. GoesOn (gives self.old) (ask_all node (sockets_of n)) (inputs_seen vault.new inputs.items))) }
         ensures err { IfErr result (λ end. IfSome (node_of (nodes_of self.old) node) (λ n. EndsSo (gives self.old) (ask_all node (sockets_of n)) end)) }
+        ensures filled { IfOk result (λ inputs. IfSome (node_of (nodes_of self.old) node) (λ n. AreFilled (sockets_of n) inputs.items)) }
         ensures ready { IfOk result (λ inputs. All (λ input. IfSome input (IsReadyAt vault.new)) inputs.items) }
         ensures passes { IfOk result (λ inputs. Passes vault.old (keys_of self.old) vault.new (keys_in inputs.items ++ keys_of self.new)) }
         ensures owns { IfOk result (λ inputs. Owns vault.new (keys_in inputs.items ++ keys_of self.new)) }
@@ -214,6 +215,7 @@ impl<'a> Cooking<'a> {
         ensures on { RunsOn self.old vault.new self.new }
         ensures ok { IfOk result (λ key. GoesOn (gives self.old) (ask node input is_needed wire) (option_map (geo_at vault.new) key)) }
         ensures err { IfErr result (EndsSo (gives self.old) (ask node input is_needed wire)) }
+        ensures given { IfOk result (λ key. IsTrue is_needed → IsSome key) }
         ensures ready { IfOk result (λ key. IfSome key (IsReadyAt vault.new)) }
         ensures passes { IfOk result (λ key. Passes vault.old (keys_of self.old) vault.new (option_to_list key ++ keys_of self.new)) }
         ensures owns { IfOk result (λ key. Owns vault.new (option_to_list key ++ keys_of self.new)) }

@@ -1,7 +1,10 @@
 use Rattle.std.proofs.Common.{[], ◌∷◌, subst}
 use Rattle.sop_vault.proofs.PassLemmas.{passes_none}
-use Rattle.sop_cook.proofs.MergeCalls.{IsInput, input_appended, input_refused}
+use Rattle.sop_cook.proofs.MergeCalls.{IsInput, ready_live, input_appended, input_refused}
 use Rattle.sop_cook.proofs.merge.append_input.Goals as goal
+
+pub append-requires-clause-from : goal.append-requires-clause-from
+append-requires-clause-from c = let is = subst (IsInput c.args.vault.now c.args.into) c.in-Some.is c.requires.input in ready_live c.args.vault.now c.in-Some.from is.1
 
 pub returns-in-Some-clause-ok : goal.returns-in-Some-clause-ok
 returns-in-Some-clause-ok c =

@@ -1,10 +1,11 @@
 use Rattle.std.proofs.Common.{◌∙◌, ◌+◌, ◌++◌, ℕ, length, List, [], ◌∷◌, ap, sym, subst, arith}
-use Rattle.std.specs.Prelude.{IfSome, Contains, Option, option_map, option_to_list}
-use Rattle.std.proofs.lemmas.List.{map-append}
+use Rattle.std.specs.Prelude.{All, IfSome, IsSome, IsTrue, Contains, Option, option_map, option_to_list}
+use Rattle.std.proofs.lemmas.List.{length-append, map-append}
+use Rattle.std.proofs.lemmas.List.Elements.{All-nil, All-push}
 use Rattle.sop_model.specs.declared.geo.Geo.{Geo}
 use Rattle.sop_net.specs.Graph.{Within}
 use Rattle.sop_net.specs.Network.{node_of, used_sources}
-use Rattle.sop_net.specs.Sockets.{sockets_from}
+use Rattle.sop_net.specs.Sockets.{sockets_from, sockets_of}
 use Rattle.sop_net.proofs.UsedLemmas.{within_less}
 use Rattle.sop_vault.specs.Passing.{Passes, Owns}
 use Rattle.sop_vault.proofs.PassLemmas.{passes_none, passes_then, owns_back}
@@ -13,10 +14,10 @@ use Rattle.sop_cook.specs.Made.{made}
 use Rattle.sop_cook.specs.Visit.{ask, ask_all}
 use Rattle.sop_cook.specs.Ends.{geo_at, seen}
 use Rattle.sop_cook.specs.Keys.{inputs_seen, keys_in, key_of}
-use Rattle.sop_cook.specs.Parts.{TellsMade, GoesOn, EndsSo}
+use Rattle.sop_cook.specs.Parts.{AreFilled, TellsMade, GoesOn, EndsSo}
 use Rattle.sop_cook.specs.Cooking.{nodes_of, keys_of, gives}
 use Rattle.sop_cook.proofs.CookLemmas.{Asked, visit_made, visit_failed, asked_none, asked_more, asked_failed, asked_all}
-use Rattle.sop_cook.proofs.CookingLemmas.{same_gives, same_nodes, sockets_known, source_there}
+use Rattle.sop_cook.proofs.CookingLemmas.{same_gives, same_nodes, sockets_known, source_there, filled_from, built_known}
 use Rattle.sop_cook.proofs.HandLemmas.{Gathered, take_running, take_owns, take_passes, take_told, gathered_none, inputs_stay, gathered_more, failed_held, failed_on, failed_passes, failed_owns, made_held, made_passes, made_owns, made_on, made_stay, made_seen}
 use Rattle.sop_cook.proofs.serial.Cooking.+cook.Goals as goal
 
@@ -49,6 +50,9 @@ gather-loop-i-init t c =
     let none = c.in-Ok.ensures.items in
     record {
       room = let a = c.in-Ok.ensures in omega (arith, a, ap (λ (xs : List (Option ℕ)). length xs) none);
+      many = ap (λ (xs : List (Option ℕ)). length xs) none;
+      few = omega arith;
+      filled = subst (All (λ key. IsTrue c.sockets-first.result.are_needed → IsSome key)) (sym none) (All-nil (λ key. IsTrue c.sockets-first.result.are_needed → IsSome key));
       hands = subst (Gathered self u self u) (sym none) (gathered_none self u c.requires.running c.requires.owns);
       asked = asked_none (gives self) c.args.node c.sockets-first.result.first c.sockets-first.result.are_needed c.sockets-first.result.wires.now (inputs_seen u c.in-Ok.inputs.items) (ap (inputs_seen u) none);
     }
@@ -123,6 +127,9 @@ gather-loop-i-preserved t c =
     let wire = c.index-wires-i.result in
     record {
       room = let a = c.loop-i.invariant.room in let b = c.push_reserved.ensures in omega (arith, a, b.len, b.capacity);
+      many = omega (arith, ap (λ (xs : List (Option ℕ)). length xs) items, length-append inputs (input ∷ []), c.loop-i.invariant.many);
+      few = omega (arith, c.loop-i-test.true);
+      filled = subst (All (λ key. IsTrue needed → IsSome key)) (sym items) (All-push (λ key. IsTrue needed → IsSome key) inputs input c.loop-i.invariant.filled e.given);
       hands = subst (Gathered self u c.ask.new.self w) (sym items) (gathered_more self u c.loop-i.self v inputs hands c.ask.new.self w e.on input e.ready e.passes e.owns);
       asked =
           asked_more go c.args.node first needed wires c.loop-i.i (inputs_seen w inputs) (inputs_seen w c.push_reserved.new.self.items) wire wire (option_map (geo_at w) input) c.loop-i-test.true (sym c.index-wires-i.is)
@@ -143,6 +150,15 @@ gather-returns-clause-ok t c =
     let inputs = inputs_seen c.loop-i.vault c.loop-i.inputs.items in
     sockets_known (λ sockets. GoesOn go (ask_all c.args.node sockets) inputs) (node_of (nodes_of c.args.self.now) c.args.node) (sockets_from first needed wires) c.sockets-first.ensures.sockets
     (asked_all go c.args.node first needed wires c.loop-i.i inputs c.loop-i-test.false c.loop-i.invariant.asked)
+
+pub gather-returns-clause-filled : goal.gather-returns-clause-filled
+gather-returns-clause-filled t c =
+    let first = c.sockets-first.result.first in
+    let needed = c.sockets-first.result.are_needed in
+    let wires = c.sockets-first.result.wires.now in
+    let keys = c.loop-i.inputs.items in
+    sockets_known (λ sockets. AreFilled sockets keys) (node_of (nodes_of c.args.self.now) c.args.node) (sockets_from first needed wires) c.sockets-first.ensures.sockets
+    (filled_from first needed wires keys (omega (arith, c.loop-i.invariant.many, c.loop-i.invariant.few, c.loop-i-test.false)) c.loop-i.invariant.filled)
 
 pub gather-returns-clause-ready : goal.gather-returns-clause-ready
 gather-returns-clause-ready t c = c.loop-i.invariant.hands.ready
@@ -205,6 +221,13 @@ give-returns-in-Err-clause-passes t c =
 
 pub visit-returns-then-not-is_built-clause-passes : goal.visit-returns-then-not-is_built-clause-passes
 visit-returns-then-not-is_built-clause-passes t c = passes_none c.args.vault.now (keys_of c.args.self.now)
+
+pub visit-make-made-requires-clause-built : goal.visit-make-made-requires-clause-built
+visit-make-made-requires-clause-built t c = built_known (node_of (nodes_of c.args.self.now) c.args.node) c.node_type.result c.node_type.ensures (sym c.is_built.ensures ∙ c.if-not-is_built.false)
+
+pub visit-make-made-requires-clause-filled : goal.visit-make-made-requires-clause-filled
+visit-make-made-requires-clause-filled t c =
+    subst (λ (keys : List (Option ℕ)). IfSome (node_of (nodes_of c.args.self.now) c.args.node) (λ n. AreFilled (sockets_of n) keys)) (sym c.as_slice.ensures.value) c.in-Ok.ensures.filled
 
 pub visit-drop_all-requires : goal.visit-drop_all-requires
 visit-drop_all-requires t c =

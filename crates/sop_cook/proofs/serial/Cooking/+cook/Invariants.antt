@@ -1,4 +1,5 @@
-use Rattle.std.proofs.Common.{◌+◌, ◌*◌, ◌≤◌, length, vec_len, vec_capacity}
+use Rattle.std.proofs.Common.{◌≡◌, ◌+◌, ◌*◌, ◌≤◌, length, vec_len, vec_capacity}
+use Rattle.std.specs.Prelude.{All, IsTrue, IsSome}
 use Rattle.sop_cook.specs.Cooking.{gives}
 use Rattle.sop_cook.specs.Keys.{inputs_seen}
 use Rattle.sop_cook.proofs.CookLemmas.{Asked}
@@ -20,6 +21,9 @@ decreases-ask l = 4 * l.left
 abbrev pub invariant-gather-loop-i : goal.invariant-gather-loop-i
 invariant-gather-loop-i l = record {
   room : vec_len l.inputs + length l.wires ≤ vec_capacity l.inputs + l.i;
+  many : length l.inputs.items ≡ l.i;
+  few : l.i ≤ length l.wires;
+  filled : All (λ key. IsTrue l.are_needed → IsSome key) l.inputs.items;
   hands : Gathered l.fn.self l.fn.vault l.self l.vault l.inputs.items;
   asked : Asked (gives l.fn.self) l.node l.first l.are_needed l.wires l.i (inputs_seen l.vault l.inputs.items);
 }
