@@ -9,6 +9,7 @@ use Rattle.sopcook.specs.declared.answer.Answer.{Answer}
 use Rattle.sopcook.specs.declared.run_end.RunEnd.{RunEnd}
 use Rattle.sopcook.specs.declared.run_end.RunEnd.TheVariants as end
 use Rattle.sop_model.specs.Faults.{fault_text}
+use Rattle.sopcook.specs.Request.{Asked}
 use Rattle.sopcook.specs.Answer.{said, no_node, echoing, node_answer, read_line}
 use Rattle.sopcook.specs.Promise.{SinkSeen, Outside, IsStatus, IsAnswered, Delivers, DeliversPrefix, EndsWithLine, SaysFault, GoesOn}
 use Rattle.sopcook.specs.Endings.{IsNodeAnswer, IsNamedAnswer, Delivery, EndWithout, ScriptEnding}
@@ -81,22 +82,22 @@ module _ (missed : Type 0) (answer : Answer) (echo : List ℕ) (lines : AreLines
   }
 
 -- the answer of a node was written behind the echoed text
-pub ending_delivered : (script : Script) (node : List ℕ) (answer : Answer) (status : ℕ) (before now : Outside) (mid : SinkSeen) → AreLines script.echoed
-    → IfSome before.files.told (λ names. answer ≡ node_answer names script.net.nodes node) → IsNamedAnswer (Rose before.files.misses now.files.misses) answer → mid.told ≡ appended before.err.told script.echoed
-    → before.err.faults ≤ mid.faults → Delivery answer status before.out now.out mid now.err → GoesOn before now → ScriptEnding script node status before now
-ending_delivered script node answer status before now mid lines meant named echoed later d on =
+pub ending_delivered : (script : Script) (request : Asked) (answer : Answer) (status : ℕ) (before now : Outside) (mid : SinkSeen) → AreLines script.echoed
+    → IfSome before.files.told (λ names. answer ≡ node_answer names script.net.nodes request) → IsNamedAnswer (Rose before.files.misses now.files.misses) answer → mid.told ≡ appended before.err.told script.echoed
+    → before.err.faults ≤ mid.faults → Delivery answer status before.out now.out mid now.err → GoesOn before now → ScriptEnding script request status before now
+ending_delivered script request answer status before now mid lines meant named echoed later d on =
     let missed = Rose before.files.misses now.files.misses in
     let no : 5 ≤ status → (status ≡ 6 → ⊥) → ⊥ = not_delivered status d.is_status in
     record {
       is_status = delivered_status status d.is_status;
       answered = λ a.
           let w = d.answered a in
-          each_told (λ names. answer ≡ node_answer names script.net.nodes node) (λ names. Delivers (echoing script.echoed (node_answer names script.net.nodes node)) status before now) before.files.told
+          each_told (λ names. answer ≡ node_answer names script.net.nodes request) (λ names. Delivers (echoing script.echoed (node_answer names script.net.nodes request)) status before now) before.files.told
           (λ names is. subst (λ (b : Answer). Delivers (echoing script.echoed b) status before now) is (record { is_status = w.0; out = w.1; err = told_behind before.err.told mid.told now.err.told script.echoed answer.err echoed w.2 })) meant;
       read_fault = λ five. absurd (no (omega (arith, five)) (λ six. omega (arith, five, six)));
       write_fault = λ six. elim (d.failed six) [ inl out ↦ inl out | inr err ↦ inr (rose_before before.err.faults mid.faults now.err.faults later err) ];
       part = λ six. inl
-          (each_told (λ names. answer ≡ node_answer names script.net.nodes node) (λ names. DeliversPrefix (echoing script.echoed (node_answer names script.net.nodes node)) before now) before.files.told
+          (each_told (λ names. answer ≡ node_answer names script.net.nodes request) (λ names. DeliversPrefix (echoing script.echoed (node_answer names script.net.nodes request)) before now) before.files.told
           (λ names is. subst (λ (b : Answer). DeliversPrefix (echoing script.echoed b) before now) is (record { out = d.out; err = prefix_behind before.err.told mid.told now.err.told script.echoed answer.err echoed d.err })) meant);
       memory = λ seven. absurd (no (omega (arith, seven)) (λ six. omega (arith, seven, six)));
       no_words = λ two. no_words missed answer status named (d.answered (inr (inl two))).0 two;
@@ -110,16 +111,16 @@ ending_delivered script node answer status before now mid lines meant named echo
     }
 
 -- the echoed text could not be written
-pub ending_unechoed : (script : Script) (node : List ℕ) (before now : Outside) → now.out.told ≡ before.out.told → AppendsPrefix before.err.told now.err.told script.echoed → Rose before.err.faults now.err.faults → GoesOn before now
-    → ScriptEnding script node 6 before now
-ending_unechoed script node before now out err failed on = record {
+pub ending_unechoed : (script : Script) (request : Asked) (before now : Outside) → now.out.told ≡ before.out.told → AppendsPrefix before.err.told now.err.told script.echoed → Rose before.err.faults now.err.faults → GoesOn before now
+    → ScriptEnding script request 6 before now
+ending_unechoed script request before now out err failed on = record {
   is_status = inr (inr (inl refl));
   answered = λ a. absurd (unanswered 6 a (omega arith));
   read_fault = λ five. absurd (omega (arith, five));
   write_fault = λ six. inr failed;
   part = λ six. inl
-      (always_told (λ names. DeliversPrefix (echoing script.echoed (node_answer names script.net.nodes node)) before now) before.files.told
-      (λ names. record { out = AppendsPrefix-none before.out.told now.out.told (node_answer names script.net.nodes node).out out; err = front_prefix before.err.told now.err.told script.echoed (node_answer names script.net.nodes node).err err }));
+      (always_told (λ names. DeliversPrefix (echoing script.echoed (node_answer names script.net.nodes request)) before now) before.files.told
+      (λ names. record { out = AppendsPrefix-none before.out.told now.out.told (node_answer names script.net.nodes request).out out; err = front_prefix before.err.told now.err.told script.echoed (node_answer names script.net.nodes request).err err }));
   memory = λ seven. absurd (omega (arith, seven));
   no_words = λ two. omega (arith, two);
   no_node = λ three. absurd (omega (arith, three));
@@ -139,9 +140,9 @@ from_five status (inr (inl six)) = omega (arith, six)
 from_five status (inr (inr seven)) = omega (arith, seven)
 
 -- a load failed or memory was wanting, behind the echoed text
-pub ending_without : (script : Script) (node : List ℕ) (e : RunEnd) (status : ℕ) (before now : Outside) (mid : SinkSeen) → AreLines script.echoed → (e ≡ end.Read → Rose before.files.faults now.files.faults) → now.out.told ≡ before.out.told
-    → mid.told ≡ appended before.err.told script.echoed → before.err.faults ≤ mid.faults → EndWithout e status mid now.err → GoesOn before now → ScriptEnding script node status before now
-ending_without script node e status before now mid lines cause out echoed later w on =
+pub ending_without : (script : Script) (request : Asked) (e : RunEnd) (status : ℕ) (before now : Outside) (mid : SinkSeen) → AreLines script.echoed → (e ≡ end.Read → Rose before.files.faults now.files.faults) → now.out.told ≡ before.out.told
+    → mid.told ≡ appended before.err.told script.echoed → before.err.faults ≤ mid.faults → EndWithout e status mid now.err → GoesOn before now → ScriptEnding script request status before now
+ending_without script request e status before now mid lines cause out echoed later w on =
     let many : 5 ≤ status = from_five status (end_status w) in
     record {
       is_status = inr (end_status w);

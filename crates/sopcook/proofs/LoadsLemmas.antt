@@ -22,6 +22,7 @@ use Rattle.sop_basic.specs.Loads.{Loads, FileMap, file_in}
 use Rattle.sop_cook.specs.SerialCook.{cook_of}
 use Rattle.sop_cook.specs.Laws.{AreAlike, IsMissing}
 use Rattle.sopcook.specs.declared.answer.Answer.{Answer}
+use Rattle.sopcook.specs.declared.request.Form.{Form}
 use Rattle.sopcook.specs.Answer.{cook_answer}
 use Rattle.sopcook.specs.Loads.{Has, HasFilesOf, HasMissing, HoldsLoads, Keeps, MissesBy, told_files}
 
@@ -181,11 +182,11 @@ taken_front n m xs ys front rest zs is written count le =
     ∙ ap (take (length xs)) (append_assoc xs ys rest) ∙ take_front xs (ys ++ rest)
 
 -- the answer over the loads is the one over the files that were told
-pub told_answer : (told : Option Names) (nodes : List Node) (x : ℕ) (loads : Loads) (answer : Answer) → Within (used_sources nodes) (length nodes) x
+pub told_answer : (form : Form) (told : Option Names) (nodes : List Node) (x : ℕ) (loads : Loads) (answer : Answer) → Within (used_sources nodes) (length nodes) x
     → ((files others : FileMap) (x : ℕ) → AreAlike files others nodes x → cook_of files nodes x ≡ cook_of others nodes x) → HasFilesOf nodes (needed nodes x) loads → IfSome told (λ names. HoldsLoads names loads)
-    → answer ≡ cook_answer nodes (cook_of (file_in loads) nodes x) → IfSome told (λ names. answer ≡ cook_answer nodes (cook_of (told_files names) nodes x))
-told_answer None nodes x loads answer within alike has holds is = tt
-told_answer (Some names) nodes x loads answer within alike has holds is = is ∙ ap (cook_answer nodes) (alike (file_in loads) (told_files names) x (loads_alike names nodes x loads within has holds))
+    → answer ≡ cook_answer form nodes (cook_of (file_in loads) nodes x) → IfSome told (λ names. answer ≡ cook_answer form nodes (cook_of (told_files names) nodes x))
+told_answer form None nodes x loads answer within alike has holds is = tt
+told_answer form (Some names) nodes x loads answer within alike has holds is = is ∙ ap (cook_answer form nodes) (alike (file_in loads) (told_files names) x (loads_alike names nodes x loads within has holds))
 
 missing_in : {R : Type 0} (found : Bool) (before : Option LoadedFile) (file : LoadedFile) → cond found (Some file) before ≡ Some Missing → (file ≡ Missing → R) → (before ≡ Some Missing → R) → R
 missing_in {R} true before file h here there = let same : file ≡ Missing = cc in here same

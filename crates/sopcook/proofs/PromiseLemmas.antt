@@ -25,16 +25,16 @@ not_refused {R} words request some none = let no : Some request ≡ None = sym s
 
 module _ (words : List (List ℕ)) (request : Asked) (asked : request_of words ≡ Some request) where
   -- the answer and the echo of a script that was loaded and read
-  script_answers : (script : Script) (names : Names) → IsOpening (load_of names request.script most_script_bytes) (Read script) → echoing script.echoed (node_answer names script.net.nodes request.node) ≡ answer_of words names
+  script_answers : (script : Script) (names : Names) → IsOpening (load_of names request.script most_script_bytes) (Read script) → echoing script.echoed (node_answer names script.net.nodes request) ≡ answer_of words names
   script_answers script names (bytes, loaded, read) =
-      sym (ap (asked_answer names) asked ∙ ap (loaded_answer names request.node) loaded ∙ ap (script_answer names request.node) read)
+      sym (ap (asked_answer names) asked ∙ ap (loaded_answer names request) loaded ∙ ap (script_answer names request) read)
 
   script_echoes : (script : Script) (names : Names) → IsOpening (load_of names request.script most_script_bytes) (Read script) → script.echoed ≡ echo_of words names
   script_echoes script names (bytes, loaded, read) = sym (ap (asked_echo names) asked ∙ ap loaded_echo loaded ∙ ap script_echo read)
 
   -- the answer that refuses a script
   refused_answers : (answer : Answer) (names : Names) → IsOpening (load_of names request.script most_script_bytes) (Refused answer) → answer ≡ answer_of words names
-  refused_answers answer names opening = sym (ap (asked_answer names) asked ∙ (opening names request.node).0)
+  refused_answers answer names opening = sym (ap (asked_answer names) asked ∙ (opening names request).0)
 
   is_echo : (script : Script) (told : Option Names) → IfSome told (λ names. IsOpening (load_of names request.script most_script_bytes) (Read script)) → IsEcho told words script.echoed
   is_echo script None opening = tt
@@ -73,9 +73,9 @@ module _ (words : List (List ℕ)) (request : Asked) (asked : request_of words �
   -- the script was read from these files, and the run went on with it
   pub script_promise : (script : Script) (status : ℕ) (before now : Outside) (mid : FilesSeen) → IfSome before.files.told (λ names. IsOpening (load_of names request.script most_script_bytes) (Read script))
       → mid.told ≡ before.files.told → before.files.faults ≤ mid.faults → before.files.misses ≤ mid.misses → before.files.overs ≤ mid.overs
-      → ScriptEnding script request.node status (record { files = mid; out = before.out; err = before.err }) now → Promise words status before now
+      → ScriptEnding script request status (record { files = mid; out = before.out; err = before.err }) now → Promise words status before now
   script_promise script status before now mid opening told faults misses overs e =
-      let whole : Names → Answer = λ names. echoing script.echoed (node_answer names script.net.nodes request.node) in
+      let whole : Names → Answer = λ names. echoing script.echoed (node_answer names script.net.nodes request) in
       let meant : IfSome before.files.told (λ names. whole names ≡ answer_of words names) =
       each_told (λ names. IsOpening (load_of names request.script most_script_bytes) (Read script)) (λ names. whole names ≡ answer_of words names) before.files.told (λ names o. script_answers script names o) opening in
       let echo = is_echo script before.files.told opening in
@@ -107,7 +107,7 @@ module _ (words : List (List ℕ)) (request : Asked) (asked : request_of words �
               out = m.0;
               err = each_told (λ names. whole names ≡ answer_of words names) (λ names. AppendsPrefix before.err.told now.err.told (answer_of words names).err) before.files.told
                   (λ names is. subst (λ (b : Answer). AppendsPrefix before.err.told now.err.told b.err) is
-                  (front_prefix before.err.told now.err.told script.echoed (node_answer names script.net.nodes request.node).err (AppendsPrefix-whole before.err.told now.err.told script.echoed m.1))) meant;
+                  (front_prefix before.err.told now.err.told script.echoed (node_answer names script.net.nodes request).err (AppendsPrefix-whole before.err.told now.err.told script.echoed m.1))) meant;
             };
         words_refused = λ two. absurd (e.no_words two);
         refused_words = λ none. not_refused words request asked none;

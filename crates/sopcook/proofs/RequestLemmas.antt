@@ -1,6 +1,6 @@
 -- The words of the command line as the kit's command reads them.
 use Rattle.std.proofs.Common.{◌≡◌, Bool, true, false, cond, ℕ, List, [], ◌∷◌, inl, inr, map, refl, sym, ◌∙◌, ap, subst}
-use Rattle.std.specs.Prelude.{None, Some, Result, Ok, Err, find, bytes_eq, slice_get, option_map, option_and_then, ◌&&◌, codes}
+use Rattle.std.specs.Prelude.{None, Some, Result, Ok, Err, find, bytes_eq, slice_get, option_map, option_and_then, codes}
 use Rattle.std.proofs.lemmas.Option.{slice_get-map}
 use Rattle.clap.specs.Words.{Kinds, IsAmong, HasKind, FailsBy, kind_of, is_simple_and_free, is_simple, first_of, first_value, rows_of, fault_of, matches_of}
 use Rattle.clap.specs.Walk.{row_of}
@@ -9,7 +9,7 @@ use Rattle.clap.specs.declared.parser.matches.Found.{Found}
 use Rattle.clap.specs.declared.error.Error.{Error}
 use Rattle.clap.specs.declared.error.kind.ErrorKind.TheVariants as kind
 use Rattle.clap.proofs.OnLiterals.{clap_on_literals}
-use Rattle.sopcook.specs.Request.{sopcook_app, are_taken, asked, given_for, taken_request, request_of, passes, is_workers, is_form}
+use Rattle.sopcook.specs.Request.{sopcook_app, are_taken, asked, given_for, taken_request, request_of, are_workers, form_asked}
 
 pub app_is_simple : is_simple sopcook_app ≡ true
 unfolding clap_on_literals
@@ -49,14 +49,14 @@ value_is_first f id = first_in f.entries.items id
 
 -- what the matches of words ask for, the words ask for
 pub request_is : (words : List (List ℕ)) (f : Found) → are_taken (fault_of sopcook_app words) ≡ true → rows_of f ≡ matches_of sopcook_app words
-    → request_of words ≡ asked (first_value f (codes "script")) (first_value f (codes "node")) (passes is_workers (first_value f (codes "workers")) && passes is_form (first_value f (codes "form")))
+    → request_of words ≡ asked (are_workers (first_value f (codes "workers"))) (form_asked (first_value f (codes "form"))) (first_value f (codes "script")) (first_value f (codes "node"))
 request_is words f taken rows =
     let same : (id : List ℕ) → given_for id words ≡ first_value f id = λ id. sym (value_is_first f id ∙ ap (first_of id) rows) in
     ap (λ b. taken_request b words) taken
-    ∙ ap (λ v. asked v (given_for (codes "node") words) (passes is_workers (given_for (codes "workers") words) && passes is_form (given_for (codes "form") words))) (same (codes "script"))
-    ∙ ap (λ v. asked (first_value f (codes "script")) v (passes is_workers (given_for (codes "workers") words) && passes is_form (given_for (codes "form") words))) (same (codes "node"))
-    ∙ ap (λ v. asked (first_value f (codes "script")) (first_value f (codes "node")) (passes is_workers v && passes is_form (given_for (codes "form") words))) (same (codes "workers"))
-    ∙ ap (λ v. asked (first_value f (codes "script")) (first_value f (codes "node")) (passes is_workers (first_value f (codes "workers")) && passes is_form v)) (same (codes "form"))
+    ∙ ap (λ v. asked (are_workers v) (form_asked (given_for (codes "form") words)) (given_for (codes "script") words) (given_for (codes "node") words)) (same (codes "workers"))
+    ∙ ap (λ v. asked (are_workers (first_value f (codes "workers"))) (form_asked v) (given_for (codes "script") words) (given_for (codes "node") words)) (same (codes "form"))
+    ∙ ap (λ v. asked (are_workers (first_value f (codes "workers"))) (form_asked (first_value f (codes "form"))) v (given_for (codes "node") words)) (same (codes "script"))
+    ∙ ap (λ v. asked (are_workers (first_value f (codes "workers"))) (form_asked (first_value f (codes "form"))) (first_value f (codes "script")) v) (same (codes "node"))
 
 pub untaken : (words : List (List ℕ)) → are_taken (fault_of sopcook_app words) ≡ false → request_of words ≡ None
 untaken words refused = ap (λ b. taken_request b words) refused

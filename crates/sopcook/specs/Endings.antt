@@ -19,6 +19,7 @@ use Rattle.sopcook.specs.declared.run_end.RunEnd.{RunEnd}
 use Rattle.sopcook.specs.declared.run_end.RunEnd.TheVariants as run_end
 use Rattle.sopcook.specs.declared.script.Opening.{Opening}
 use Rattle.sopcook.specs.declared.script.Opening.TheVariants.{Read, Refused}
+use Rattle.sopcook.specs.Request.{Asked}
 use Rattle.sopcook.specs.Answer.{refused_with, no_script, script_too_long, line_answer, no_node, echoing, node_answer, loaded_answer, loaded_echo, read_line}
 use Rattle.sopcook.specs.Promise.{SinkSeen, Outside, IsStatus, IsAnswered, Delivers, DeliversPrefix, EndsWithLine, SaysFault, GoesOn}
 
@@ -30,7 +31,7 @@ IsRead meant (Refused answer) = (line : ℕ) × (refusal : ScriptKind) × (meant
 -- the script of the text that was loaded, or the answer that such a load gives
 abbrev pub IsOpening : Result (List ℕ) LoadEnd → Opening → Type 0
 IsOpening load (Read script) = (bytes : List ℕ) × (load ≡ Ok bytes) × (script_of bytes ≡ Ok script)
-IsOpening load (Refused answer) = (names : Names) (node : List ℕ) → (loaded_answer names node load ≡ answer) × (loaded_echo load ≡ [])
+IsOpening load (Refused answer) = (names : Names) (request : Asked) → (loaded_answer names request load ≡ answer) × (loaded_echo load ≡ [])
 
 -- why a script is refused: it is missing, or too long, or one of its commands is refused
 abbrev pub IsCaused : Type 0 → Type 0 → Opening → Type 0
@@ -80,12 +81,12 @@ pub record EndWithout (e : RunEnd) (status : ℕ) (before now : SinkSeen) : Type
   pub later : before.faults ≤ now.faults
 
 -- what a run promises once its script was read, as `Promise` says it of the whole run
-pub record ScriptEnding (script : Script) (node : List ℕ) (status : ℕ) (before now : Outside) : Type 0 where
+pub record ScriptEnding (script : Script) (request : Asked) (status : ℕ) (before now : Outside) : Type 0 where
   pub is_status : IsStatus status
-  pub answered : IsAnswered status → IfSome before.files.told (λ names. Delivers (echoing script.echoed (node_answer names script.net.nodes node)) status before now)
+  pub answered : IsAnswered status → IfSome before.files.told (λ names. Delivers (echoing script.echoed (node_answer names script.net.nodes request)) status before now)
   pub read_fault : status ≡ 5 → Rose before.files.faults now.files.faults × (now.out.told ≡ before.out.told) × EndsWithLine script.echoed read_line before.err now.err
   pub write_fault : status ≡ 6 → Rose before.out.faults now.out.faults ⊎ Rose before.err.faults now.err.faults
-  pub part : status ≡ 6 → IfSome before.files.told (λ names. DeliversPrefix (echoing script.echoed (node_answer names script.net.nodes node)) before now)
+  pub part : status ≡ 6 → IfSome before.files.told (λ names. DeliversPrefix (echoing script.echoed (node_answer names script.net.nodes request)) before now)
       ⊎ (Rose before.files.faults now.files.faults × (now.out.told ≡ before.out.told) × AppendsPrefix before.err.told now.err.told (script.echoed ++ read_line))
   pub memory : status ≡ 7 → (now.out.told ≡ before.out.told) × (now.err.told ≡ appended before.err.told script.echoed)
   pub no_words : status ≡ 2 → ⊥

@@ -1,13 +1,13 @@
 //! What the program answers.
 ghost use Rattle.std.specs.Prelude.{◌≡◌, [], IfOk, IsTrue};
 ghost use Rattle.sop_model.specs.Faults.{has_named_node};
-ghost use Rattle.sop_model.specs.Geometry.{IsReadable, HasOnlyPosition};
+ghost use Rattle.sop_model.specs.Geometry.{IsReadable};
 ghost use Rattle.sop_net.specs.Network.{IsLive};
 ghost use Rattle.sop_cook.specs.Visit.{failed};
-ghost use Rattle.geo_text.specs.ObjWriting.{obj_text};
-ghost use Rattle.sopcook.specs.Answer.{refused_with, no_script, script_too_long, line_answer, no_node, fault_answer};
+ghost use Rattle.sopcook.specs.Answer.{refused_with, no_script, script_too_long, line_answer, no_node, fault_answer, text_in};
 
-use geo_text::write_obj;
+use crate::request::Form;
+use geo_text::{write_list, write_obj};
 use hscript_text::ScriptKind;
 use itoa::Buffer;
 use sop_model::{Fault, GeoView};
@@ -91,15 +91,25 @@ impl Answer {
     }
 
     /// The cook gives a geometry.
-    pub fn of_geo<V: GeoView>(alloc: Global, view: &V) -> Result<Answer, AllocError>
-        requires readable { IsReadable (V.geo view.now) }
-        requires position { HasOnlyPosition (V.geo view.now) }
-        ensures { IfOk result (λ answer. answer ≡ record { status = 0; out = obj_text (V.geo view.now); err = [] }) }
+    pub fn of_geo<V: GeoView>(alloc: Global, form: Form, view: &V) -> Result<Answer, AllocError>
+        requires { IsReadable (V.geo view.now) }
+        ensures { IfOk result (λ answer. answer ≡ record { status = 0; out = text_in form (V.geo view.now); err = [] }) }
     {
         Ok(Answer {
             status: 0,
-            out: ByteList::from_vec(write_obj(alloc, view)?),
+            out: ByteList::from_vec(write_form(alloc, form, view)?),
             err: ByteList::new(alloc),
         })
+    }
+}
+
+/// The text of a geometry in a form.
+fn write_form<V: GeoView>(alloc: Global, form: Form, view: &V) -> Result<Vec<u8>, AllocError>
+    requires { IsReadable (V.geo view.now) }
+    ensures { IfOk result (λ text. text.items ≡ text_in form (V.geo view.now)) }
+{
+    match form {
+        Form::Obj => write_obj(alloc, view),
+        Form::List => write_list(alloc, view),
     }
 }

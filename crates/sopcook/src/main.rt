@@ -1,4 +1,4 @@
-//! Cooks a node of the network that a command file builds, and writes its geometry as OBJ.
+//! Cooks a node of the network that a command file builds, and writes its geometry as OBJ or as a listing.
 #![tactic(auto)]
 
 ghost use Rattle.std.specs.Prelude.{◌≡◌, ◌≢◌, ◌≤◌, ◌⊎◌};

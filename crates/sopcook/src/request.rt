@@ -1,13 +1,22 @@
 //! The words of the command line.
-ghost use Rattle.std.specs.Prelude.{◌≡◌, ◌&&◌, Err, IfOk, None, Some, codes, false, map, option_map, string_bytes, true};
+ghost use Rattle.std.specs.Prelude.{◌≡◌, Err, IfOk, None, Some, codes, false, map, option_map, string_bytes, true};
 ghost use Rattle.clap.specs.Words.{app_of, fault_of, first_value, found_of, kind_of, matches_of, rows_of};
-ghost use Rattle.sopcook.specs.Request.{are_taken, asked, is_form, is_workers, passes, request_of, request_seen, sopcook_app};
+ghost use Rattle.sopcook.specs.Request.{are_taken, are_workers, asked, form_asked, form_named, is_workers, request_of, request_seen, sopcook_app};
 
 use crate::limits::{MOST_WORKER_DIGITS, MOST_WORKERS};
 use clap::error::ErrorKind;
 use clap::{Arg, ArgMatches, Command, Error};
 use sop_fixed::read_number;
 use std::alloc::{AllocError, Global};
+
+/// The form of the text that a geometry is written as.
+#[derive(Clone, Copy, Debug, PartialEq, Eq)]
+pub enum Form {
+    /// OBJ.
+    Obj,
+    /// The listing.
+    List,
+}
 
 /// What the words ask for.
 #[derive(Clone, Copy, Debug)]
@@ -16,6 +25,8 @@ pub struct Request<'a> {
     pub script: &'a str,
     /// The name of the node to cook.
     pub node: &'a str,
+    /// The form of its geometry's text.
+    pub form: Form,
 }
 
 /// Why the words ask for nothing.
@@ -54,8 +65,9 @@ fn is_workers(text: &[u8]) -> bool
     }
 }
 
+/// They may be left out.
 fn are_workers(text: Option<&str>) -> bool
-    ensures { result ≡ passes is_workers (option_map (λ t. t.now) text.entry) }
+    ensures { result ≡ are_workers (option_map (λ t. t.now) text.entry) }
 {
     match text {
         Some(text) => is_workers(text.as_bytes()),
@@ -63,12 +75,26 @@ fn are_workers(text: Option<&str>) -> bool
     }
 }
 
-fn is_form(text: Option<&str>) -> bool
-    ensures { result ≡ passes is_form (option_map (λ t. t.now) text.entry) }
+/// The form of this name.
+fn form_named(name: &str) -> Option<Form>
+    ensures { result ≡ form_named name.now }
 {
-    match text {
-        Some(text) => text == "obj",
-        None => true,
+    if name == "obj" {
+        return Some(Form::Obj);
+    }
+    if name == "list" {
+        return Some(Form::List);
+    }
+    None
+}
+
+/// The form that is asked for: OBJ where it is left out.
+fn form_asked(name: Option<&str>) -> Option<Form>
+    ensures { result ≡ form_asked (option_map (λ t. t.now) name.entry) }
+{
+    match name {
+        Some(name) => form_named(name),
+        None => Some(Form::Obj),
     }
 }
 
@@ -98,24 +124,18 @@ fn parse<'a>(alloc: Global, words: &'a [String]) -> Result<ArgMatches<'a>, Reque
     }
 }
 
-/// Whether the options have values that they take.
-fn options_fit(matches: &ArgMatches<'_>) -> bool
-    ensures { result ≡ (passes is_workers (first_value (found_of matches.now) (codes "workers")) && passes is_form (first_value (found_of matches.now) (codes "form"))) }
-{
-    are_workers(matches.get_str("workers")) && is_form(matches.get_str("form"))
-}
-
 /// What the matches ask for.
 fn asked<'a>(matches: &ArgMatches<'a>) -> Option<Request<'a>>
-    ensures { option_map request_seen result ≡ asked (first_value (found_of matches.now) (codes "script")) (first_value (found_of matches.now) (codes "node"))
-        (passes is_workers (first_value (found_of matches.now) (codes "workers")) && passes is_form (first_value (found_of matches.now) (codes "form"))) }
+    ensures { option_map request_seen result ≡ asked (are_workers (first_value (found_of matches.now) (codes "workers"))) (form_asked (first_value (found_of matches.now) (codes "form")))
+        (first_value (found_of matches.now) (codes "script")) (first_value (found_of matches.now) (codes "node")) }
 {
-    if !options_fit(matches) {
+    if !are_workers(matches.get_str("workers")) {
         return None;
     }
+    let form = form_asked(matches.get_str("form"))?;
     let script = matches.get_str("script")?;
     let node = matches.get_str("node")?;
-    Some(Request { script, node })
+    Some(Request { script, node, form })
 }
 
 /// What the words ask for. `Refused` comes exactly where they aren't taken, `Memory` for want of memory.

@@ -3,20 +3,21 @@ ghost use Rattle.std.specs.Prelude.{◌≡◌, ◌≤◌, ◌⊎◌, map, string
 ghost use Rattle.sop_outside.specs.Causes.{Rose};
 ghost use Rattle.sop_outside.specs.Told.{appended, AppendsPrefix};
 ghost use Rattle.hscript_text.specs.WholeLines.{AreLines};
+ghost use Rattle.sopcook.specs.Request.{request_seen};
 ghost use Rattle.sopcook.specs.Answer.{words_answer};
 ghost use Rattle.sopcook.specs.Promise.{Promise, IsAnswered};
 ghost use Rattle.sopcook.specs.Endings.{Delivery, EndWithout, ScriptEnding};
 
 use crate::answer::Answer;
 use crate::node::answer_named;
-use crate::request::{RequestEnd, read_words};
+use crate::request::{Request, RequestEnd, read_words};
 use crate::run_end::RunEnd;
 use crate::script::{Opening, open_script};
 use hscript_text::Script;
 use sop_outside::{Files, Sink, put};
 use std::alloc::Global;
 
-/// Cooks the node that the words name, of the script that they name, and writes its geometry as OBJ on `out`. What the script echoes comes
+/// Cooks the node that the words name, of the script that they name, and writes its geometry on `out`, as OBJ or as its listing. What the script echoes comes
 /// first on `err`.
 ///
 /// The words are `SCRIPT NODE [-j N] [--form FORM]`, without the program's name. The status is 0 where all was written; 2 where the words are
@@ -47,25 +48,23 @@ pub fn run<F: Files, O: Sink, E: Sink>(
         Err(RequestEnd::Memory) => return 7,
     };
     match open_script(alloc, files, request.script) {
-        Ok(Opening::Read(script)) => {
-            answer_script(alloc, &script, request.node, files, out, err)
-        }
+        Ok(Opening::Read(script)) => { answer_script(alloc, &script, &request, files, out, err) }
         Ok(Opening::Refused(answer)) => deliver(&answer, out, err),
         Err(end) => deliver_end(end, err),
     }
 }
 
-/// Writes what a script echoes, answers its node of a name, and writes the answer.
+/// Writes what a script echoes, answers its node that is asked for, and writes the answer.
 fn answer_script<F: Files, O: Sink, E: Sink>(
     alloc: Global,
     script: &Script,
-    node: &str,
+    request: &Request<'_>,
     files: &mut F,
     out: &mut O,
     err: &mut E,
 ) -> u8
     requires { AreLines script.now.echoed }
-    ensures { ScriptEnding script.now node.now result
+    ensures { ScriptEnding script.now (request_seen request.now) result
         (record {
           files = record { told = F.told files.old; faults = F.faults files.old; misses = F.misses files.old; overs = F.overs files.old };
           out = record { told = O.told out.old; faults = O.faults out.old };
@@ -80,7 +79,7 @@ fn answer_script<F: Files, O: Sink, E: Sink>(
     if put(err, script.echoed.as_slice()).is_err() {
         return 6;
     }
-    match answer_named(alloc, &script.net, node, files) {
+    match answer_named(alloc, &script.net, request, files) {
         Ok(answer) => deliver(&answer, out, err),
         Err(end) => deliver_end(end, err),
     }

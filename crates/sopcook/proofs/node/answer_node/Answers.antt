@@ -21,14 +21,14 @@ viewed {o} geo is = ap (λ (p : Option Geo). unwrap_or p empty_geo) (sym is)
 
 pub returns-in-Ok-clause-ok : goal.returns-in-Ok-clause-ok
 returns-in-Ok-clause-ok g c =
-    told_answer (g.F.Files.told c.args.files.now) c.args.net.now.nodes c.args.node c.in_ok-loaded.loaded c.in_ok-of_geo-in-Ok.field-0 (c.is_network.ensures.within_used c.args.node c.requires) c.cook_runs_visits.ensures.files
-    c.in_ok-loaded.ensures.all c.in_ok-loaded.ensures.loads (c.in_ok-of_geo-in-Ok.ensures ∙ ap (λ (geo : Geo). cook_answer c.args.net.now.nodes (Ok geo)) (viewed c.view.result c.view.ensures.geo) ∙ ap (cook_answer c.args.net.now.nodes) (sym c.in-Ok.ensures.tells))
+    told_answer c.args.form (g.F.Files.told c.args.files.now) c.args.net.now.nodes c.args.node c.in_ok-loaded.loaded c.in_ok-of_geo-in-Ok.field-0 (c.is_network.ensures.within_used c.args.node c.requires) c.cook_runs_visits.ensures.files
+    c.in_ok-loaded.ensures.all c.in_ok-loaded.ensures.loads (c.in_ok-of_geo-in-Ok.ensures ∙ ap (λ (geo : Geo). cook_answer c.args.form c.args.net.now.nodes (Ok geo)) (viewed c.view.result c.view.ensures.geo) ∙ ap (cook_answer c.args.form c.args.net.now.nodes) (sym c.in-Ok.ensures.tells))
 
 pub returns-clause-ok : goal.returns-clause-ok
 returns-clause-ok g c =
     IfOk-weaker c.answer_end.result _ _ (λ answer is.
-    told_answer (g.F.Files.told c.args.files.now) c.args.net.now.nodes c.args.node c.in_ok-loaded.loaded answer (c.is_network.ensures.within_used c.args.node c.requires) c.cook_runs_visits.ensures.files
-    c.in_ok-loaded.ensures.all c.in_ok-loaded.ensures.loads (is (cook_of (file_in c.in_ok-loaded.loaded) c.args.net.now.nodes c.args.node) c.in-Err.ensures.tells)) c.answer_end.ensures.ok
+    told_answer c.args.form (g.F.Files.told c.args.files.now) c.args.net.now.nodes c.args.node c.in_ok-loaded.loaded answer (c.is_network.ensures.within_used c.args.node c.requires) c.cook_runs_visits.ensures.files
+    c.in_ok-loaded.ensures.all c.in_ok-loaded.ensures.loads (is c.args.form (cook_of (file_in c.in_ok-loaded.loaded) c.args.net.now.nodes c.args.node) c.in-Err.ensures.tells)) c.answer_end.ensures.ok
 
 -- the answer of an end, which is NoFile only for a cause
 node_answer_of : (e : CookEnd) (missed : Type 0) (answer : Answer) → IsEndAnswer e answer → ((x : ℕ) → e ≡ end.Fault x fault.NoFile → missed) → IsNodeAnswer missed answer
