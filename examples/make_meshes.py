@@ -1,24 +1,20 @@
 #!/usr/bin/env python3
-"""Makes the OBJ files of the examples, and what each example gives (its expected.obj).
+"""Makes the OBJ files of the examples, and what each example gives (its expected.obj, and its expected.list).
 
     make_meshes.py [--check]
 
 Nothing here asks sopcook: what an example gives is put together from the same meshes by the rule for merging, input by
-input, with the point numbers of each input raised by the points before it. With --check nothing is written: the files
-in place are compared, and the status is 1 where one differs.
+input, with the point numbers of each input raised by the points before it. The examples with colours, texture
+coordinates, normals or groups stand in models.py. With --check nothing is written: the files in place are compared, and
+the status is 1 where one differs.
 """
 import os
 import sys
 
+import models
+from decimals import UNIT, decimal
+
 HERE = os.path.dirname(os.path.realpath(__file__))
-UNIT = 1_000_000  # coordinates are whole numbers of millionths
-
-
-def decimal(number):
-    """The shortest plain decimal of a number of millionths."""
-    whole, rest = divmod(abs(number), UNIT)
-    fraction = f"{rest:06d}".rstrip("0")
-    return ("-" if number < 0 else "") + str(whole) + ("." + fraction if fraction else "")
 
 
 def obj(mesh, numeral=decimal, gap=""):
@@ -98,7 +94,7 @@ def point(*texts):
 
 def made():
     """All files, by their path below this folder."""
-    files = {}
+    files = models.made()
 
     left = triangle(0, 0)
     right = triangle(2 * UNIT, UNIT // 2)

@@ -3,7 +3,7 @@
 
     checks.py PROGRAM [--only WORD]
 
-The groups are examples (each gives its expected.obj, and its expected.err where it echoes), cases
+The groups are examples (each gives its expected files: .obj, .list with --form list, .err where it echoes), cases
 (tests/cases/*.jsonl), streams (what can't be written), limits (sizes at their limit and past it, and networks with far
 too many ways upstream), launcher (the script sopcook) and house (the layout of the repository). With --only a check
 runs where its group or name has WORD. The last line is 'N passed, M failed', and the status is 0 where none failed.
@@ -52,9 +52,13 @@ def compare(answer, wanted):
 def examples(program):
     for script in sorted(glob.glob(f"{TOP}/examples/*/*.cmd")):
         name, expected = os.path.relpath(script, TOP), f"{os.path.dirname(script)}/expected"
-        with open(f"{expected}.obj", "rb") as file:
-            wanted = 0, file.read(), read_or_nothing(f"{expected}.err")
-        yield name, lambda name=name, wanted=wanted: compare(cook(program, [name, "out"], TOP), wanted)
+        for form in ("obj", "list"):
+            if form == "list" and not os.path.exists(f"{expected}.list"):
+                continue
+            words = [name, "out", "--form", form]
+            with open(f"{expected}.{form}", "rb") as file:
+                wanted = 0, file.read(), read_or_nothing(f"{expected}.err")
+            yield f"{name} as {form}", lambda words=words, wanted=wanted: compare(cook(program, words, TOP), wanted)
     yield "the meshes are those of make_meshes.py", meshes
 
 
@@ -107,6 +111,7 @@ def streams(program):
         ("a full standard output behind echoed text", "t f", ">/dev/full", (6, b"", b"made it\n")),
         ("nothing to write on a full output", "s m", ">/dev/full", (0, b"", b"")),
         ("nothing to write on a full output, behind echoed text", "t m", ">/dev/full", (0, b"", b"made it\n")),
+        ("a listing on a full output, where OBJ has nothing to write", "s m --form list", ">/dev/full", (6, b"", b"")),
         ("a full standard error, where there is no such node", "s x", "2>/dev/full", (6, b"", b"")),
         ("a closed standard error, where there is no such node", "s x", "2>&-", (6, b"", b"")),
         ("a full standard error, where the words are refused", "s", "2>/dev/full", (6, b"", b"")),
@@ -127,20 +132,20 @@ def limits(program):
         yield name, lambda files=files, node=node, wanted=wanted: in_folder(
             files, lambda folder: compare(cook(program, ["s", node], folder), wanted)
         )
-    for name, size, fault in [
-        ("a file of 64 MiB without a line end", 67_108_864, b"NotYet"),
-        ("a file of 64 MiB and a byte", 67_108_865, b"Limit"),
+    for name, size, wanted in [
+        ("a file of 64 MiB, in one word, which is skipped", 67_108_864, (0, b"", b"")),
+        ("a file of 64 MiB and a byte", 67_108_865, (4, b"", b"sopcook: f: Limit\n")),
     ]:
-        yield name, lambda size=size, fault=fault: in_folder(
-            {"s": b"opadd file f\nopparm f file a.obj\n"}, lambda folder: cook_hole(program, folder, size, fault)
+        yield name, lambda size=size, wanted=wanted: in_folder(
+            {"s": b"opadd file f\nopparm f file a.obj\n"}, lambda folder: cook_hole(program, folder, size, wanted)
         )
 
 
-def cook_hole(program, folder, size, fault):
+def cook_hole(program, folder, size, wanted):
     """Cooks a file of so many zero bytes, which take no room on the disk."""
     with open(f"{folder}/a.obj", "wb") as file:
         file.truncate(size)
-    return compare(cook(program, ["s", "f"], folder), (4, b"", b"sopcook: f: " + fault + b"\n"))
+    return compare(cook(program, ["s", "f"], folder), wanted)
 
 
 def outcome(check):

@@ -1,4 +1,5 @@
 """Checks of the repository's layout: what each crate has, what is committed, and that the repository stands alone."""
+import json
 import os
 import re
 import subprocess
@@ -99,6 +100,14 @@ def defines_what_it_lists(top):
     return few(missing)
 
 
+def tests_what_it_shows(top):
+    """Each file and answer in the table `reference` stands in docs/REFERENCE.md, indented."""
+    blocks = set(re.findall(r"(?:^    .*\n)+", read(f"{top}/docs/REFERENCE.md"), flags=re.MULTILINE))
+    cases = [json.loads(line) for line in read(f"{top}/tests/cases/reference.jsonl").splitlines()]
+    shows = lambda text: re.sub(r"(?m)^", "    ", text.rstrip("\n")) + "\n" in blocks
+    return few([case["name"] for case in cases if not all(map(shows, [*case["files"].values(), case["out"]]))])
+
+
 def read(path):
     if not os.path.exists(path):
         return ""
@@ -125,5 +134,6 @@ def checks(top):
         ("no file of code has more than 800 lines", keeps_files_short),
         ("no line of a document has more than 100 columns", wraps_documents),
         ("each listed definition stands in its file", defines_what_it_lists),
+        ("the reference shows what the table of its examples tests", tests_what_it_shows),
     ]:
         yield name, lambda check=check: check(top)

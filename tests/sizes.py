@@ -1,4 +1,4 @@
-"""Scripts and files at the limits of their sizes and past them, and networks of 1,024 nodes.
+"""Scripts, files and geometries at the limits of their sizes and past them, and networks of 1,024 nodes.
 
 Each check is a name, the files by name and bytes (the script is `s`), the node to cook, and the wanted status, out
 and err.
@@ -8,6 +8,7 @@ MOST_NODES = 1024
 MERGE = b"opadd merge m\n"
 TWO_FILES = b"opadd file f\nopparm f file a.obj\nopadd file g\nopparm g file b.obj\n"
 MERGED_FILES = TWO_FILES + MERGE + b"opwire m 0 f\nopwire m 1 g\n"
+FILE = b"opadd file f\nopparm f file a.obj\n"
 
 
 def written(out):
@@ -41,7 +42,6 @@ def geometries():
     yield "a merge of 1,000,001 points", merge(points(half), points(half + 1)), "m", over
     behind = merge(points(half), points(half + 1), b"opadd file h\nopwire m 2 h\n")
     yield "a merge of 1,000,001 points and a missing file", behind, "m", refused(4, b"h: NoFile")
-    yield "a file of 1,000,001 points", merge(points(most + 1), b""), "f", refused(4, b"f: NotYet")
 
     # In a merge the faces of the second file name the second point.
     out = written(points(2) + faces(half) + faces(half, b"2"))
@@ -50,6 +50,72 @@ def geometries():
     out = written(points(2) + wide_faces(1000) + wide_faces(3000, b"2"))
     yield "a merge of 4,000,000 vertices", merge(point + wide_faces(1000), point + wide_faces(3000)), "m", out
     yield "a merge of 4,000,001 vertices", merge(point + faces(1), point + wide_faces(4000)), "m", over
+
+
+def files():
+    """A file has at most 1,000,000 points, 1,000,000 primitives and 4,000,000 references, whatever its lines say."""
+    most, point, over = 1_000_000, points(1), refused(4, b"f: Limit")
+    check = lambda name, text, wanted: (f"a file of {name}", {"s": FILE, "a.obj": text}, "f", wanted)
+    yield check("1,000,000 points", points(most), written(points(most)))
+    yield check("1,000,001 points", points(most + 1), over)
+    yield check("1,000,001 points, and a line that is refused", b"v x\n" + points(most), over)
+    yield check("1,000,001 faces", point + faces(most + 1), over)
+    yield check("1,000,001 faces without a corner", point + b"f\n" * (most + 1), written(point))
+    face = point + b"f" + b" 1" * 4_000_000
+    yield check("a face of 4,000,000 corners", face, written(face + b"\n"))
+    yield check("4,000,001 references that are no numbers", point + wide_faces(4000, b"x") + faces(1), over)
+    yield check("4,001,000 references on p lines", point + b"p%s\n" % (b" 1" * 1000) * 4001, written(point))
+    joined = point + b"f" + b" 1 \\\n" * most + b"\nf 2\n"
+    yield check("a million lines in one, and one behind it", joined, refused(4, b"f: Index 1000003"))
+
+
+def chain(first, parms):
+    """A node, and behind it an attribcreate for each of some parameters, n0 and on, each over the one before it."""
+    lines, over = [first], b"f"
+    for i, parm in enumerate(parms):
+        lines.append(b"opadd attribcreate n%d\nopparm n%d %s\nopwire n%d 0 %s\n" % (i, i, parm, i, over))
+        over = b"n%d" % i
+    return b"".join(lines)
+
+
+def nodes():
+    """A class has at most 64 attributes and 256 groups, and the values of a geometry weigh at most 40,000,000."""
+    most = 1_000_000
+    for klass, room in ("point", 63), ("detail", 64):
+        names = [b"class %s name a%d" % (klass.encode(), i) for i in range(room + 1)]
+        for count, wanted in (room, written(points(1))), (room + 1, refused(4, b"n%d: Limit" % room)):
+            files = {"s": chain(FILE, names[:count]), "a.obj": points(1)}
+            yield f"{count} further attributes of the class {klass}", files, f"n{count - 1}", wanted
+    group = lambda name, count: points(1) + b"".join(b"g %s%d\nf 1\n" % (name, i) for i in range(count))
+    both = {"s": MERGED_FILES, "a.obj": group(b"a", 128), "b.obj": group(b"b", 128)}
+    out = group(b"a", 128) + group(b"b", 128).replace(b"f 1\n", b"f 2\n")
+    out = points(2) + out.replace(points(1), b"")
+    yield "a merge of 256 groups", both, "m", written(out)
+    yield "a merge of 257 groups", {**both, "b.obj": group(b"b", 129)}, "m", refused(4, b"m: Limit")
+
+    # A place weighs 3 and a string of 288 bytes 37.
+    for size, wanted in (288, written(points(most))), (296, refused(4, b"n0: Limit")):
+        text = b"name a kind string value " + b"x" * size
+        files = {"s": chain(FILE, [text]), "a.obj": points(most)}
+        yield f"1,000,000 points, each with a string of {size} bytes", files, "n0", wanted
+    added = b"opadd add a\nopparm a points '0 0 0'\nopwire a 0 f\n"
+    yield "a point more than 1,000,000", {"s": FILE + added, "a.obj": points(most)}, "a", refused(4, b"a: Limit")
+
+    out = b"".join(b"v 0 %d 0\n" % i for i in range(most))
+    out += b"l%s\n" % b"".join(b" %d" % i for i in range(1, most + 1))
+    script = b"opadd line n\nopparm n points 1000000 dist 999999\n"
+    yield "a line of 1,000,000 points", {"s": script}, "n", written(out)
+    script = b"opadd grid n\nopparm n rows 1000 cols 1000 sizex 999 sizez 999\n"
+    yield "a grid of 1,000 rows and columns", {"s": script}, "n", written(grid(1000))
+
+
+def grid(count):
+    """A grid of so many rows and columns, an even number, a unit apart."""
+    half = lambda c: b"%s%d.5" % (b"-" if 2 * c < count else b"", abs(2 * c - count + 1) // 2)
+    places = b"".join(b"v %s 0 %s\n" % (half(c), half(r)) for r in range(count) for c in range(count))
+    corner = lambda r, c: r * count + c + 1
+    quad = lambda r, c: (corner(r, c), corner(r, c + 1), corner(r + 1, c + 1), corner(r + 1, c))
+    return places + b"".join(b"f %d %d %d %d\n" % quad(r, c) for r in range(count - 1) for c in range(count - 1))
 
 
 def scripts():
@@ -91,6 +157,8 @@ def networks():
     last, point = f"n{MOST_NODES - 1}", b"v 1 2 3\n"
     yield "1,023 nulls in a row", {"s": row_of(b"null", 1), "a.obj": point}, last, written(point)
     yield "1,023 switches in a row", {"s": row_of(b"switch", 32), "a.obj": point}, last, written(point)
+    yield "1,023 xforms in a row", {"s": row_of(b"xform", 1), "a.obj": point}, last, written(point)
+    yield "1,023 enumerates in a row", {"s": row_of(b"enumerate", 1), "a.obj": point}, last, written(point)
     merges = row_of(b"merge", 32)
     yield "1,023 merges in a row, each wired 32 times", {"s": merges, "a.obj": b""}, last, written(b"")
     yield "1,023 merges in a row over a missing file", {"s": merges}, last, refused(4, b"n0: NoFile")
@@ -98,5 +166,7 @@ def networks():
 
 def checks():
     yield from geometries()
+    yield from files()
+    yield from nodes()
     yield from scripts()
     yield from networks()
