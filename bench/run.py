@@ -96,13 +96,18 @@ def made_apart(folder, count, inputs):
     return "out" if inputs > 1 else "grid0"
 
 
-def cook(program, folder, node):
-    """Processor seconds, bytes of memory at most, and the status of one cook, whose answer goes to got.obj."""
+def timed(words, folder):
+    """Processor seconds, bytes of memory at most, and the status of one run in the folder, whose answer goes to got.obj."""
     with open(f"{folder}/got.obj", "wb") as out:
-        started = subprocess.Popen([program, "cook.cmd", node], cwd=folder, stdin=subprocess.DEVNULL, stdout=out)
+        started = subprocess.Popen(words, cwd=folder, stdin=subprocess.DEVNULL, stdout=out)
         _, status, used = os.wait4(started.pid, 0)
     started.returncode = os.waitstatus_to_exitcode(status)
     return used.ru_utime + used.ru_stime, used.ru_maxrss * 1024, started.returncode
+
+
+def cook(program, folder, node, *more):
+    """The same of one cook."""
+    return timed([program, "cook.cmd", node, *more], folder)
 
 
 def measure(program, count, inputs, runs):

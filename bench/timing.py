@@ -31,13 +31,13 @@ def status_of(problems):
     return 1 if problems else 0
 
 
-def build_peer():
+def build_peer(name="peer"):
     folder = f"{page.TOP}/.build/bench"
     os.makedirs(folder, exist_ok=True)
-    words = ["rustc", "--edition", "2021", "-O", "-o", f"{folder}/peer", f"{page.TOP}/bench/peer.rs"]
+    words = ["rustc", "--edition", "2021", "-O", "-o", f"{folder}/{name}", f"{page.TOP}/bench/{name}.rs"]
     if subprocess.run(words).returncode:
         sys.exit("the peer can't be built")
-    return f"{folder}/peer"
+    return f"{folder}/{name}"
 
 
 class Run(NamedTuple):
