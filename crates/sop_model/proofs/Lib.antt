@@ -5,7 +5,6 @@ pub mod PrimitivesLemmas
 pub mod LimitsLemmas
 pub mod PlacesLemmas
 pub mod PlainLemmas
-pub mod PlainMerge
 pub mod PlainLimits
 pub mod SampleLemmas
 pub mod RowLists

@@ -1,4 +1,4 @@
--- Lemmas on plain geometries: what their rows are, and what their merge is.
+-- Lemmas on plain geometries: what their rows are, and that they are well made.
 use Rattle.std.proofs.Common.{◌≡◌, Bool, ◌<◌, List, [], ◌∷◌, length, refl, sym, ◌∙◌, ap, subst}
 use Rattle.std.specs.Prelude.{map, All}
 use Rattle.std.proofs.lemmas.List.{nil_from_length}
@@ -13,7 +13,7 @@ use Rattle.sop_model.specs.declared.value.Value.{Value}
 use Rattle.sop_model.specs.declared.value.Value.TheVariants as value
 use Rattle.sop_model.specs.Values.{kind_of}
 use Rattle.sop_model.specs.Vertices.{size_of, corners_of}
-use Rattle.sop_model.specs.Geometry.{heads_of, rows_of, empty_row, no_heads, only_position, HasOnlyPosition, IsNamed, IsRowOf, IsSound, IsGood, BeginsWithPosition}
+use Rattle.sop_model.specs.Geometry.{heads_of, rows_of, empty_row, no_heads, only_position, empty_geo, HasOnlyPosition, IsNamed, IsRowOf, IsSound, IsGood, BeginsWithPosition}
 use Rattle.sop_model.specs.Plain.{point_row, IsPointRow, IsPlain}
 use Rattle.sop_model.proofs.RowLists.{All-under_map}
 
@@ -115,10 +115,14 @@ IsSound-from_plain g plain points = record {
 pub IsGood-from_plain : (g : Geo) → IsPlain g → All (λ c. c.point < length g.points) (corners_of g.prims) → All (λ p. 0 < size_of p) g.prims → IsGood g
 IsGood-from_plain g plain points corners = record { sound = IsSound-from_plain g plain points; corners = corners }
 
--- the points of a plain geometry as a list of positions
-pub positions_of : (rows : List Row) → All IsPointRow rows → (vs : List Vec3) × (rows ≡ map point_row vs)
-positions_of [] all = ([], refl)
-positions_of (row ∷ rows) all =
-    let here = All-head IsPointRow row rows all in
-    let rest = positions_of rows (All-tail IsPointRow row rows all) in
-    (here.0 ∷ rest.0, cc)
+pub IsPlain-empty_geo : IsPlain empty_geo
+IsPlain-empty_geo = record {
+  only = record { detail = refl; prim = refl; point = refl; vertex = refl };
+  points = All-nil IsPointRow;
+  prims = All-nil (λ p. p.row ≡ empty_row);
+  corners = All-nil (λ c. c.row ≡ empty_row);
+  detail = refl;
+}
+
+pub IsSound-empty_geo : IsSound empty_geo
+IsSound-empty_geo = IsSound-from_plain empty_geo IsPlain-empty_geo (All-nil (λ c. c.point < 0))

@@ -18,7 +18,7 @@ use Rattle.sop_model.specs.Values.{kind_of}
 use Rattle.sop_model.specs.Geometry.{position_head, empty_geo, IsRowOf, IsSound}
 use Rattle.sop_model.specs.Merge.{first_heads, joined_set, value_under, fitted, row_under, moved_corner, moved_prim, joined_prims, detail_value, joined, merged}
 use Rattle.sop_model.specs.Appending.{appended}
-use Rattle.sop_model.proofs.PlainMerge.{IsSound-empty_geo}
+use Rattle.sop_model.proofs.PlainLemmas.{IsSound-empty_geo}
 use Rattle.sop_model.proofs.RowLists.{map_agree}
 use Rattle.sop_rows.proofs.FirstLemmas.{firsts-twice, under, under_none-append, under-skip}
 use Rattle.sop_rows.proofs.MergeLemmas.{head_name, first_heads_is, value_under-map, value_under-none, value_under-some, fitted_again, Follows, HasNamesOf, row_under-twice, all_heads, under-joined, names_in_joined, joined_follows, joined_set-joined}

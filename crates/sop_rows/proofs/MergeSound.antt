@@ -20,7 +20,7 @@ use Rattle.sop_model.specs.Vertices.{size_of, corners_of}
 use Rattle.sop_model.specs.Geometry.{heads_of, rows_of, empty_geo, IsNamed, IsRowOf, BeginsWithPosition, IsSound, IsGood}
 use Rattle.sop_model.specs.Merge.{first_names, joined_set, value_under, flag_under, fitted, row_under, moved_corner, detail_value, joined, merged}
 use Rattle.sop_model.specs.Appending.{appended}
-use Rattle.sop_model.proofs.PlainMerge.{IsSound-empty_geo}
+use Rattle.sop_model.proofs.PlainLemmas.{IsSound-empty_geo}
 use Rattle.sop_model.proofs.RowLists.{All-left, All-right}
 use Rattle.sop_rows.proofs.FirstLemmas.{firsts, firsts_distinct, list_all-firsts}
 use Rattle.sop_rows.proofs.ElementOps.{corners_of-append}
