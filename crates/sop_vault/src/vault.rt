@@ -94,8 +94,9 @@ impl<'b> Vault<'b> {
         Ok(GeoKey { key })
     }
 
-    /// A new key of a geometry that is read. `Err` for want of memory: then only names may have come.
-    pub(crate) fn load<V: GeoView>(&mut self, view: &V) -> Result<GeoKey, AllocError>
+    /// A new key of a geometry that is read. It is read column by column, so that its rows are never made. `Err` for want of memory: then
+    /// only names may have come.
+    pub fn load<V: GeoView>(&mut self, view: &V) -> Result<GeoKey, AllocError>
         requires readable { IsReadable (V.geo view.now) }
         requires values { AreValuesWithin (V.geo view.now) }
         ensures ok { IfOk result (λ new. Added self.old self.new new (Some (V.geo view.now))) }
