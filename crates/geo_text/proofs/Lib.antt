@@ -1,5 +1,8 @@
 pub mod ObjScanning
 pub mod ObjMaking
+pub mod ObjColumnLists
+pub mod ObjColumnLemmas
+pub mod ObjColumnReading
 pub mod ObjReader
 pub mod ObjLooping
 pub mod ObjSurveying

@@ -22,7 +22,7 @@ each_more f old now i d x h front back is =
       drop-set-lt (i + 1) now i x less ∙ sym (drop-drop 1 i now) ∙ ap (drop 1) back ∙ drop-drop 1 i old,
     )
 
-rows_more : (prims : List Primitive) → prims_rows prims (map (with_last_flag false) (map (λ p. p.row) prims)) ≡ map flag_more prims
+pub rows_more : (prims : List Primitive) → prims_rows prims (map (with_last_flag false) (map (λ p. p.row) prims)) ≡ map flag_more prims
 rows_more [] = refl
 rows_more (p ∷ prims) = ap (λ l. flag_more p ∷ l) (rows_more prims)
 

@@ -1,24 +1,20 @@
 -- The words of a text that is written are plain.
 use Rattle.std.proofs.Common.{◌≡◌, ℕ, zero, suc, ◌-◌, ◌/◌, ◌%◌, ◌^◌, ◌<◌, ◌≤◌, List, [], ◌∷◌, ◌++◌, length, take, replicate, refl, arith, rules, Bool, true, false, not, ℤ, unsigned_abs}
-use Rattle.std.specs.Prelude.{◌&&◌, ◌==◌, All, slice_get, codes, decimal, if◌then◌else◌}
+use Rattle.std.specs.Prelude.{◌&&◌, ◌==◌, codes, decimal, if◌then◌else◌}
 use Rattle.std.specs.List.{list_all, suffix_len, items_where_true}
 use Rattle.std.specs.Char.{is_ascii_digit}
 use Rattle.std.proofs.lemmas.Bool.{and_parts, and_from}
 use Rattle.std.proofs.lemmas.Bool.Decides.{nat_tests}
 use Rattle.std.proofs.lemmas.Fmt.{digits_decimal, decimal_nonempty}
 use Rattle.std.proofs.lemmas.Str.Parse.{IsNumeralModel, numerals_by_weight}
-use Rattle.std.proofs.lemmas.List.Elements.{All-head, All-tail}
 use Rattle.sop_fixed.specs.declared.vec3.Vec3.{Vec3}
 use Rattle.sop_fixed.specs.Numbers.{is_negative, largest_size}
 use Rattle.sop_fixed.specs.Numerals.{number_of, six_digits, is_zero_digit, without_last_zeros, fraction_text, sign_text, decimal_of}
-use Rattle.sop_model.specs.declared.value.Value.{Value}
-use Rattle.sop_model.specs.declared.value.Value.TheVariants as value
 use Rattle.sop_model.specs.Names.{is_name, starts_name, continues_name}
-use Rattle.sop_model.specs.Places.{vector_in}
 use Rattle.geo_text.specs.declared.obj_writer.Parts.{Parts}
 use Rattle.geo_text.specs.ObjText.{parts_text}
 use Rattle.geo_text.specs.ObjWords.{is_plain_byte, is_plain_word, are_plain_words, vector_words}
-use Rattle.geo_text.specs.Carried.{IsRealVector, IsRealValue}
+use Rattle.geo_text.specs.ObjRange.{IsRealVector}
 
 own : IsNumeralModel (λ ds. list_all is_ascii_digit ds ≡ true) number_of
 own = numerals_by_weight _ (search rules) number_of (search rules)
@@ -92,19 +88,6 @@ pub vector_plain : (v : Vec3) → IsRealVector v → are_plain_words (vector_wor
 vector_plain v real =
     and_from (is_plain_word (decimal_of v.x)) (are_plain_words (decimal_of v.y ∷ decimal_of v.z ∷ [])) (real_plain v.x real.0)
     (and_from (is_plain_word (decimal_of v.y)) (are_plain_words (decimal_of v.z ∷ [])) (real_plain v.y real.1) (and_from (is_plain_word (decimal_of v.z)) true (real_plain v.z real.2) refl))
-
-pub real_in : (values : List Value) (i : ℕ) → All IsRealValue values → IsRealVector (vector_in (slice_get values i))
-real_in [] zero all = (omega arith, omega arith, omega arith)
-real_in [] (suc i) all = (omega arith, omega arith, omega arith)
-real_in (value.Vector v ∷ values) zero all = All-head IsRealValue (value.Vector v) values all
-real_in (value.Int n ∷ values) zero all = (omega arith, omega arith, omega arith)
-real_in (value.Real n ∷ values) zero all = (omega arith, omega arith, omega arith)
-real_in (value.Str n ∷ values) zero all = (omega arith, omega arith, omega arith)
-real_in (value.Ints n ∷ values) zero all = (omega arith, omega arith, omega arith)
-real_in (value.Reals n ∷ values) zero all = (omega arith, omega arith, omega arith)
-real_in (value.Vectors n ∷ values) zero all = (omega arith, omega arith, omega arith)
-real_in (value.Strs n ∷ values) zero all = (omega arith, omega arith, omega arith)
-real_in (v ∷ values) (suc i) all = real_in values i (All-tail IsRealValue v values all)
 
 parts_inside : (parts : Parts) (k : ℕ) → k < 2 ^ 64 → is_inside (parts_text parts k) ≡ true
 parts_inside parts k h = cases parts.texture parts.normal

@@ -22,7 +22,8 @@ use Rattle.geo_text.specs.ObjTaking.{value_if, point_row, begun, vertex_taken}
 use Rattle.geo_text.specs.ObjMeaning.{vector_at, vertex_of, prim_of, group_names, meaning}
 use Rattle.geo_text.specs.ObjText.{vector_head, vector_under, parts_of, groups_of, text_of}
 use Rattle.geo_text.specs.ObjPieces.{place_written, vectors_under, number_if, named_written}
-use Rattle.geo_text.specs.Carried.{AreReal, head_where, value_where, normal_where, texture_carried, normal_carried, carried_corner, carried_prim, carried_point, used_groups, carried}
+use Rattle.geo_text.specs.ObjRange.{AreReal}
+use Rattle.geo_text.specs.Carried.{head_where, value_where, normal_where, texture_carried, normal_carried, carried_corner, carried_prim, carried_point, used_groups, carried}
 use Rattle.geo_text.proofs.ObjShapesBack.{shapes_written}
 use Rattle.geo_text.proofs.ObjBack.{has_carried, attributes_back, points_back, read_again, geo_back}
 use Rattle.geo_text.proofs.ObjUnrefused.{text_read}

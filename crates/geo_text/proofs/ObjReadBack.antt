@@ -20,7 +20,7 @@ use Rattle.geo_text.specs.ObjLines.{is_filled}
 use Rattle.geo_text.specs.ObjStatements.{Part, Absent, Ahead, Wrong, Point, Texture, Normal, vector_in, place_with, counted, part_of, reference_of, reference_from, without_empty_end, mended, mended_byte, with_start, statement_of}
 use Rattle.geo_text.specs.ObjText.{parts_text, vector_under}
 use Rattle.geo_text.specs.ObjWords.{vector_words, point_words}
-use Rattle.geo_text.specs.Carried.{IsRealVector}
+use Rattle.geo_text.specs.ObjRange.{IsRealVector, IsRealUnder}
 
 own : IsNumeralModel (λ ds. list_all is_ascii_digit ds ≡ true) number_of
 own = numerals_by_weight _ (search rules) number_of (search rules)
@@ -29,12 +29,12 @@ own = numerals_by_weight _ (search rules) number_of (search rules)
 pub vector_back : (v : Vec3) → IsRealVector v → vector_in (decimal_of v.x) (decimal_of v.y) (decimal_of v.z) ≡ Some v
 vector_back v real = rw (reads_back v.x real.0, reads_back v.y real.1, reads_back v.z real.2) refl
 
-pub point_back : (colour : Option ℕ) (row : Row) → IsRealVector (place_of row) → ((head : ℕ) → IsRealVector (vector_under head row))
+pub point_back : (colour : Option ℕ) (row : Row) → IsRealVector (place_of row) → IsRealUnder colour row
     → statement_of (point_words colour row) ≡ Point (Some (record { at = place_of row; colour = option_map (λ head. vector_under head row) colour }))
 point_back None row place real = ap (λ v. Point (option_map (λ at. record { at = at; colour = None }) v)) (vector_back (place_of row) place)
 point_back (Some head) row place real =
     ap (λ v. Point (place_with v (vector_in (decimal_of (vector_under head row).x) (decimal_of (vector_under head row).y) (decimal_of (vector_under head row).z)))) (vector_back (place_of row) place)
-    ∙ ap (λ v. Point (place_with (Some (place_of row)) v)) (vector_back (vector_under head row) (real head))
+    ∙ ap (λ v. Point (place_with (Some (place_of row)) v)) (vector_back (vector_under head row) real)
 
 pub texture_back : (v : Vec3) → IsRealVector v → statement_of (codes "vt" ∷ vector_words v) ≡ Texture (Some v)
 texture_back v real = ap Texture (vector_back v real)

@@ -7,7 +7,7 @@ use Rattle.std.proofs.lemmas.List.{length-map}
 use Rattle.std.proofs.lemmas.List.Elements.{All-nil, All-cons, All-head, All-tail, All-weaker}
 use Rattle.sop_model.proofs.LimitsLemmas.{fits_within, within_points, within_vertices}
 use Rattle.sop_fixed.specs.declared.vec3.Vec3.{Vec3}
-use Rattle.sop_model.specs.declared.class.Class.TheVariants.{Prim, Point, Vertex}
+use Rattle.sop_model.specs.declared.class.Class.TheVariants.{Prim, Vertex}
 use Rattle.sop_model.specs.declared.geo.Geo.{Geo}
 use Rattle.sop_model.specs.declared.geo.Row.{Row}
 use Rattle.sop_model.specs.declared.geo.Corner.{Corner}
@@ -18,53 +18,47 @@ use Rattle.sop_model.specs.Places.{place_of}
 use Rattle.sop_model.specs.Geometry.{IsGood, Fits, rows_of}
 use Rattle.geo_text.specs.declared.obj_writer.Parts.{Parts}
 use Rattle.geo_text.specs.declared.reference.Counts.{Counts}
-use Rattle.geo_text.specs.ObjStatements.{Point}
 use Rattle.geo_text.specs.ObjMeaning.{Piece, PointPiece, TexturePiece, NormalPiece, ShapePiece, GroupsPiece, no_counts, piece_of, counted_in}
 use Rattle.geo_text.specs.ObjText.{vector_head, vector_under, parts_text, parts_of, same_flags, groups_of, no_flags}
 use Rattle.geo_text.specs.ObjWords.{is_plain_word, are_plain_words, vector_words, colour_words, point_words, vectors_written, references_words, shape_words, change_words, prims_words, lines_written}
 use Rattle.geo_text.specs.ObjPieces.{place_written, vectors_under, prims_pieces, named_written, pieces_written}
-use Rattle.geo_text.specs.Carried.{IsRealValue, AreReal}
+use Rattle.geo_text.specs.ObjRange.{IsRealUnder, AreRealUnder, AreReal}
 use Rattle.geo_text.proofs.ObjWritten.{are_plain_lines}
-use Rattle.geo_text.proofs.ObjPlain.{vector_plain, real_in, reference_plain, chosen_plain}
+use Rattle.geo_text.proofs.ObjPlain.{vector_plain, reference_plain, chosen_plain}
 use Rattle.geo_text.proofs.ObjReadBack.{point_back, texture_back, normal_back}
 use Rattle.geo_text.proofs.ObjGives.{AllGive, give_append, counted_by, counts_in, Suits, prims_given}
 
-abbrev IsRealRow : Row → Type 0
-IsRealRow row = All IsRealValue row.values
-
 -- ---- points and vectors give their pieces
-points_given : (whole : Counts) (colour : Option ℕ) (rows : List Row) → All IsRealRow rows → AllGive whole (map (point_words colour) rows) (map (λ row. PointPiece (place_written colour row)) rows)
-points_given whole colour [] all = tt
-points_given whole colour (row ∷ rows) all =
-    let real = All-head IsRealRow row rows all in
-    let says = point_back colour row (real_in row.values 0 real) (λ head. real_in row.values head real) in (
+points_given : (whole : Counts) (colour : Option ℕ) (rows : List Row) → AreRealUnder (Some 0) rows → AreRealUnder colour rows
+    → AllGive whole (map (point_words colour) rows) (map (λ row. PointPiece (place_written colour row)) rows)
+points_given whole colour [] places colours = tt
+points_given whole colour (row ∷ rows) places colours =
+    let says = point_back colour row (All-head (IsRealUnder (Some 0)) row rows places) (All-head (IsRealUnder colour) row rows colours) in (
       record { piece = λ line so_far. ap (piece_of line whole so_far) says; counts = λ n. ap (λ s. counted_in s n) says },
-      points_given whole colour rows (All-tail IsRealRow row rows all),
+      points_given whole colour rows (All-tail (IsRealUnder (Some 0)) row rows places) (All-tail (IsRealUnder colour) row rows colours),
     )
 
-textures_given : (whole : Counts) (head : ℕ) (rows : List Row) → All IsRealRow rows → AllGive whole (map (λ row. codes "vt" ∷ vector_words (vector_under head row)) rows) (map TexturePiece (map (vector_under head) rows))
+textures_given : (whole : Counts) (head : ℕ) (rows : List Row) → AreRealUnder (Some head) rows → AllGive whole (map (λ row. codes "vt" ∷ vector_words (vector_under head row)) rows) (map TexturePiece (map (vector_under head) rows))
 textures_given whole head [] all = tt
 textures_given whole head (row ∷ rows) all =
-    let real = real_in row.values head (All-head IsRealRow row rows all) in
-    let says = texture_back (vector_under head row) real in (
+    let says = texture_back (vector_under head row) (All-head (IsRealUnder (Some head)) row rows all) in (
       record { piece = λ line so_far. ap (piece_of line whole so_far) says; counts = λ n. ap (λ s. counted_in s n) says },
-      textures_given whole head rows (All-tail IsRealRow row rows all),
+      textures_given whole head rows (All-tail (IsRealUnder (Some head)) row rows all),
     )
 
-normals_given : (whole : Counts) (head : ℕ) (rows : List Row) → All IsRealRow rows → AllGive whole (map (λ row. codes "vn" ∷ vector_words (vector_under head row)) rows) (map NormalPiece (map (vector_under head) rows))
+normals_given : (whole : Counts) (head : ℕ) (rows : List Row) → AreRealUnder (Some head) rows → AllGive whole (map (λ row. codes "vn" ∷ vector_words (vector_under head row)) rows) (map NormalPiece (map (vector_under head) rows))
 normals_given whole head [] all = tt
 normals_given whole head (row ∷ rows) all =
-    let real = real_in row.values head (All-head IsRealRow row rows all) in
-    let says = normal_back (vector_under head row) real in (
+    let says = normal_back (vector_under head row) (All-head (IsRealUnder (Some head)) row rows all) in (
       record { piece = λ line so_far. ap (piece_of line whole so_far) says; counts = λ n. ap (λ s. counted_in s n) says },
-      normals_given whole head rows (All-tail IsRealRow row rows all),
+      normals_given whole head rows (All-tail (IsRealUnder (Some head)) row rows all),
     )
 
-some_textures : (whole : Counts) (head : Option ℕ) (rows : List Row) → All IsRealRow rows → AllGive whole (vectors_written (codes "vt") head rows) (map TexturePiece (vectors_under head rows))
+some_textures : (whole : Counts) (head : Option ℕ) (rows : List Row) → AreRealUnder head rows → AllGive whole (vectors_written (codes "vt") head rows) (map TexturePiece (vectors_under head rows))
 some_textures whole None rows all = tt
 some_textures whole (Some head) rows all = textures_given whole head rows all
 
-some_normals : (whole : Counts) (head : Option ℕ) (rows : List Row) → All IsRealRow rows → AllGive whole (vectors_written (codes "vn") head rows) (map NormalPiece (vectors_under head rows))
+some_normals : (whole : Counts) (head : Option ℕ) (rows : List Row) → AreRealUnder head rows → AllGive whole (vectors_written (codes "vn") head rows) (map NormalPiece (vectors_under head rows))
 some_normals whole None rows all = tt
 some_normals whole (Some head) rows all = normals_given whole head rows all
 
@@ -169,8 +163,8 @@ all_given g good f real =
     give_append whole (points ++ textures ++ normals) (point_pieces ++ map TexturePiece (vectors_under uv rows) ++ map NormalPiece (vectors_under n rows))
     (prims_words g 0 (no_flags g) g.prims) (prims_pieces g 0 (no_flags g) g.prims)
     (give_append whole (points ++ textures) (point_pieces ++ map TexturePiece (vectors_under uv rows)) normals (map NormalPiece (vectors_under n rows))
-    (give_append whole points point_pieces textures (map TexturePiece (vectors_under uv rows)) (points_given whole colour g.points (real.rows Point)) (some_textures whole uv rows (real.rows Vertex)))
-    (some_normals whole n rows (real.rows Vertex)))
+    (give_append whole points point_pieces textures (map TexturePiece (vectors_under uv rows)) (points_given whole colour g.points real.places real.colours) (some_textures whole uv rows real.textures))
+    (some_normals whole n rows real.normals))
     (prims_given g whole 0 (no_flags g) g.prims (suits g good f) good.corners good.sound.points)
 
 -- ---- the words of all lines are plain
@@ -182,26 +176,27 @@ words_append : (xs ys : List (List ℕ)) → are_plain_words xs ≡ true → are
 words_append [] ys a b = b
 words_append (x ∷ xs) ys a b = let parts = and_parts (is_plain_word x) (are_plain_words xs) a in and_from (is_plain_word x) (are_plain_words (xs ++ ys)) parts.0 (words_append xs ys parts.1 b)
 
-colour_plain : (colour : Option ℕ) (row : Row) → IsRealRow row → are_plain_words (colour_words colour row) ≡ true
+colour_plain : (colour : Option ℕ) (row : Row) → IsRealUnder colour row → are_plain_words (colour_words colour row) ≡ true
 colour_plain None row real = refl
-colour_plain (Some head) row real = vector_plain (vector_under head row) (real_in row.values head real)
+colour_plain (Some head) row real = vector_plain (vector_under head row) real
 
-points_plain : (colour : Option ℕ) (rows : List Row) → All IsRealRow rows → are_plain_lines (map (point_words colour) rows) ≡ true
-points_plain colour [] all = refl
-points_plain colour (row ∷ rows) all =
-    let real = All-head IsRealRow row rows all in
+points_plain : (colour : Option ℕ) (rows : List Row) → AreRealUnder (Some 0) rows → AreRealUnder colour rows → are_plain_lines (map (point_words colour) rows) ≡ true
+points_plain colour [] places colours = refl
+points_plain colour (row ∷ rows) places colours =
     and_from (are_plain_words (point_words colour row)) (are_plain_lines (map (point_words colour) rows))
-    (words_append (vector_words (place_of row)) (colour_words colour row) (vector_plain (place_of row) (real_in row.values 0 real)) (colour_plain colour row real))
-    (points_plain colour rows (All-tail IsRealRow row rows all))
+    (words_append (vector_words (place_of row)) (colour_words colour row)
+    (vector_plain (place_of row) (All-head (IsRealUnder (Some 0)) row rows places)) (colour_plain colour row (All-head (IsRealUnder colour) row rows colours)))
+    (points_plain colour rows (All-tail (IsRealUnder (Some 0)) row rows places) (All-tail (IsRealUnder colour) row rows colours))
 
-vectors_plain : (key : List ℕ) (head : ℕ) (rows : List Row) → is_plain_word key ≡ true → All IsRealRow rows → are_plain_lines (map (λ row. key ∷ vector_words (vector_under head row)) rows) ≡ true
+vectors_plain : (key : List ℕ) (head : ℕ) (rows : List Row) → is_plain_word key ≡ true → AreRealUnder (Some head) rows → are_plain_lines (map (λ row. key ∷ vector_words (vector_under head row)) rows) ≡ true
 vectors_plain key head [] k all = refl
 vectors_plain key head (row ∷ rows) k all =
     let v = vector_under head row in
     and_from (are_plain_words (key ∷ vector_words v)) (are_plain_lines (map (λ row. key ∷ vector_words (vector_under head row)) rows))
-    (and_from (is_plain_word key) (are_plain_words (vector_words v)) k (vector_plain v (real_in row.values head (All-head IsRealRow row rows all)))) (vectors_plain key head rows k (All-tail IsRealRow row rows all))
+    (and_from (is_plain_word key) (are_plain_words (vector_words v)) k (vector_plain v (All-head (IsRealUnder (Some head)) row rows all)))
+    (vectors_plain key head rows k (All-tail (IsRealUnder (Some head)) row rows all))
 
-some_plain : (key : List ℕ) (head : Option ℕ) (rows : List Row) → is_plain_word key ≡ true → All IsRealRow rows → are_plain_lines (vectors_written key head rows) ≡ true
+some_plain : (key : List ℕ) (head : Option ℕ) (rows : List Row) → is_plain_word key ≡ true → AreRealUnder head rows → are_plain_lines (vectors_written key head rows) ≡ true
 some_plain key None rows k all = refl
 some_plain key (Some head) rows k all = vectors_plain key head rows k all
 
@@ -251,6 +246,6 @@ all_plain g good f real =
     let below = All-weaker (λ (c : Corner). c.point < length g.points) (λ c. c.point < 1000000) (λ c h. omega (arith, h, few)) (corners_of g.prims) good.sound.points in
     lines_append (map (point_words colour) g.points ++ textures ++ normals) (prims_words g 0 (no_flags g) g.prims)
     (lines_append (map (point_words colour) g.points ++ textures) normals
-    (lines_append (map (point_words colour) g.points) textures (points_plain colour g.points (real.rows Point)) (some_plain (codes "vt") (vector_head g.vertex (codes "uv")) rows refl (real.rows Vertex)))
-    (some_plain (codes "vn") (vector_head g.vertex (codes "N")) rows refl (real.rows Vertex)))
+    (lines_append (map (point_words colour) g.points) textures (points_plain colour g.points real.places real.colours) (some_plain (codes "vt") (vector_head g.vertex (codes "uv")) rows refl real.textures))
+    (some_plain (codes "vn") (vector_head g.vertex (codes "N")) rows refl real.normals))
     (prims_plain g 0 (no_flags g) g.prims (good.sound.named Prim).groups (let e = within_vertices within in omega (arith, e)) below)

@@ -14,7 +14,7 @@ use Rattle.sop_model.specs.Vertices.{size_of}
 use Rattle.sop_model.specs.Places.{place_of}
 use Rattle.sop_model.specs.Geometry.{rows_of}
 use Rattle.geo_text.specs.declared.obj_writer.Parts.{Parts}
-use Rattle.geo_text.specs.ObjText.{vector_head, vector_under, vector_text, colour_text, point_line, vector_lines, points_text, textures_text, normals_text, parts_text, references_text, parts_of, shape_line, same_flags, groups_of, change_of_groups, prims_text, no_flags, text_of}
+use Rattle.geo_text.specs.ObjText.{vector_head, vector_under, spaced_vector, colour_text, point_line, vector_lines, points_text, textures_text, normals_text, parts_text, references_text, parts_of, shape_line, same_flags, groups_of, change_of_groups, shapes_text, no_flags, text_of}
 use Rattle.geo_text.specs.ObjWords.{words_text, line_text, lines_text, vector_words, colour_words, point_words, vectors_written, references_words, shape_words, change_words, prims_words, lines_written}
 
 abbrev spaced : List ℕ → List ℕ
@@ -27,7 +27,7 @@ words_spaced w (v ∷ words) = ap (λ l. w ++ 32 ∷ l) (words_spaced v words)
 line_spaced : (w : List ℕ) (words : List (List ℕ)) → line_text (w ∷ words) ≡ w ++ flat_map spaced words ++ 10 ∷ []
 line_spaced w words = ap (λ l. l ++ 10 ∷ []) (words_spaced w words)
 
-vector_spaced : (v : Vec3) → flat_map spaced (vector_words v) ≡ vector_text v
+vector_spaced : (v : Vec3) → flat_map spaced (vector_words v) ≡ spaced_vector v
 vector_spaced v = simp (append_assoc, append-nil)
 
 colour_spaced : (colour : Option ℕ) (row : Row) → flat_map spaced (colour_words colour row) ≡ colour_text colour row
@@ -39,21 +39,21 @@ point_written colour row =
     line_spaced (codes "v") (vector_words (place_of row) ++ colour_words colour row)
     ∙ ap (λ l. codes "v" ++ l ++ 10 ∷ []) (flat_map-append spaced (vector_words (place_of row)) (colour_words colour row))
     ∙ ap (λ l. codes "v" ++ (l ++ flat_map spaced (colour_words colour row)) ++ 10 ∷ []) (vector_spaced (place_of row))
-    ∙ ap (λ l. codes "v" ++ (vector_text (place_of row) ++ l) ++ 10 ∷ []) (colour_spaced colour row)
-    ∙ ap (λ l. l ++ 10 ∷ []) (sym (append_assoc (codes "v") (vector_text (place_of row)) (colour_text colour row)))
+    ∙ ap (λ l. codes "v" ++ (spaced_vector (place_of row) ++ l) ++ 10 ∷ []) (colour_spaced colour row)
+    ∙ ap (λ l. l ++ 10 ∷ []) (sym (append_assoc (codes "v") (spaced_vector (place_of row)) (colour_text colour row)))
 
 points_written : (colour : Option ℕ) (rows : List Row) → lines_text (map (point_words colour) rows) ≡ flat_map (point_line colour) rows
 points_written colour [] = refl
 points_written colour (row ∷ rows) = ap (λ l. l ++ lines_text (map (point_words colour) rows)) (point_written colour row) ∙ ap (λ l. point_line colour row ++ l) (points_written colour rows)
 
-vectors_line : (key : List ℕ) (v : Vec3) → line_text (key ∷ vector_words v) ≡ key ++ vector_text v ++ codes "\n"
+vectors_line : (key : List ℕ) (v : Vec3) → line_text (key ∷ vector_words v) ≡ key ++ spaced_vector v ++ codes "\n"
 vectors_line key v = line_spaced key (vector_words v) ∙ ap (λ l. key ++ l ++ 10 ∷ []) (vector_spaced v)
 
-vectors_lines : (key : List ℕ) (head : ℕ) (rows : List Row) → lines_text (map (λ row. key ∷ vector_words (vector_under head row)) rows) ≡ flat_map (λ row. key ++ vector_text (vector_under head row) ++ codes "\n") rows
+vectors_lines : (key : List ℕ) (head : ℕ) (rows : List Row) → lines_text (map (λ row. key ∷ vector_words (vector_under head row)) rows) ≡ flat_map (λ row. key ++ spaced_vector (vector_under head row) ++ codes "\n") rows
 vectors_lines key head [] = refl
 vectors_lines key head (row ∷ rows) =
     ap (λ l. l ++ lines_text (map (λ row. key ∷ vector_words (vector_under head row)) rows)) (vectors_line key (vector_under head row))
-    ∙ ap (λ l. (key ++ vector_text (vector_under head row) ++ codes "\n") ++ l) (vectors_lines key head rows)
+    ∙ ap (λ l. (key ++ spaced_vector (vector_under head row) ++ codes "\n") ++ l) (vectors_lines key head rows)
 
 vectors_text : (key : List ℕ) (head : Option ℕ) (rows : List Row) → lines_text (vectors_written key head rows) ≡ vector_lines key head rows
 vectors_text key None rows = refl
@@ -75,7 +75,7 @@ change_written g flags p =
       | inr other ↦ rw other (append-nil (line_text (codes "g" ∷ groups_of g p)) ∙ line_spaced (codes "g") (groups_of g p))
     ]
 
-prims_written : (g : Geo) (before : ℕ) (flags : List Bool) (prims : List Primitive) → lines_text (prims_words g before flags prims) ≡ prims_text g before flags prims
+prims_written : (g : Geo) (before : ℕ) (flags : List Bool) (prims : List Primitive) → lines_text (prims_words g before flags prims) ≡ shapes_text g before flags prims
 prims_written g before flags [] = refl
 prims_written g before flags (p ∷ prims) =
     let more = prims_words g (before + size_of p) p.row.flags prims in
@@ -83,7 +83,7 @@ prims_written g before flags (p ∷ prims) =
     ∙ ap (λ l. l ++ (line_text (shape_words g before p) ++ lines_text more)) (change_written g flags p)
     ∙ ap (λ l. change_of_groups g flags p ++ (l ++ lines_text more)) (shape_written g before p)
     ∙ ap (λ l. change_of_groups g flags p ++ (shape_line g before p ++ l)) (prims_written g (before + size_of p) p.row.flags prims)
-    ∙ sym (append_assoc (change_of_groups g flags p) (shape_line g before p) (prims_text g (before + size_of p) p.row.flags prims))
+    ∙ sym (append_assoc (change_of_groups g flags p) (shape_line g before p) (shapes_text g (before + size_of p) p.row.flags prims))
 
 -- the text of a geometry has these lines
 pub text_lines : (g : Geo) → lines_text (lines_written g) ≡ text_of g

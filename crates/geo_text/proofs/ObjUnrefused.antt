@@ -14,7 +14,7 @@ use Rattle.geo_text.specs.ObjMeaning.{NoPiece, Said, said_by, no_counts, counts_
 use Rattle.geo_text.specs.ObjText.{text_of}
 use Rattle.geo_text.specs.ObjWords.{words_text, lines_text, is_plain_byte, is_plain_word, are_plain_words, lines_written}
 use Rattle.geo_text.specs.ObjPieces.{pieces_written}
-use Rattle.geo_text.specs.Carried.{AreReal}
+use Rattle.geo_text.specs.ObjRange.{AreReal}
 use Rattle.geo_text.proofs.ObjWritten.{are_plain_lines, said_words, said_written, one_text}
 use Rattle.geo_text.proofs.ObjTextLines.{text_lines}
 use Rattle.geo_text.proofs.ObjGives.{given_pieces, given_counts}

@@ -1,12 +1,14 @@
 -- Texts that grow.
-use Rattle.std.proofs.Common.{◌≡◌, ℕ, zero, suc, ◌+◌, ◌-◌, ◌<◌, ◌≤◌, List, [], ◌∷◌, ◌++◌, length, map, take, drop, get_or, append_assoc, append-nil, refl, sym, ap, ◌∙◌, arith, Option, Some, None, Bool, true, false, not, inl, inr}
+use Rattle.std.proofs.Common.{◌≡◌, ℕ, zero, suc, ◌+◌, ◌-◌, ◌<◌, ◌≤◌, List, [], ◌∷◌, ◌++◌, length, map, take, drop, get_or, append_assoc, append-nil, refl, sym, ap, subst, ◌∙◌, arith, Option, Some, None, Bool, true, false, not, inl, inr}
 use Rattle.std.specs.Prelude.{codes, decimal, slice_get, if◌then◌else◌, ◌&&◌, ◌==◌}
 use Rattle.std.specs.List.{flat_map, items_where_true}
 use Rattle.std.specs.Option.{option_map}
 use Rattle.std.proofs.lemmas.Bool.{cases_Bool}
 use Rattle.std.proofs.lemmas.Bool.Decides.{nat_tests}
 use mathlib.Core.Bool.{beq}
-use Rattle.std.proofs.lemmas.List.{drop_more, drop_all, get_or-map, length-map}
+use Rattle.std.proofs.lemmas.List.{drop_more, drop_all, take_more, get_or-map, length-map}
+use Rattle.std.proofs.lemmas.List.Elements.{All-nil, All-cons, All-append}
+use Rattle.std.proofs.lemmas.Option.{slice_get-get_or}
 use Rattle.sop_model.specs.declared.class.Class.TheVariants.{Prim}
 use Rattle.sop_model.specs.declared.geo.Row.{Row}
 use Rattle.sop_model.specs.Geometry.{IsReadable, empty_row}
@@ -18,12 +20,28 @@ use Rattle.sop_model.specs.declared.geo.Primitive.{Primitive}
 use Rattle.sop_model.specs.Rows.{no_prim}
 use Rattle.sop_model.specs.Vertices.{size_of, corners_of, first_vertex_in}
 use Rattle.geo_text.specs.ObjText.{parts_text, references_text, closed_parts, parts_of, shape_line, same_flag, same_flags}
-use Rattle.geo_text.proofs.Writing.{piece_at}
+use Rattle.geo_text.specs.ObjRange.{IsRealUnder, AreRealUnder}
+use Rattle.geo_text.proofs.Writing.{piece_at, list_more}
 
 -- a line of four parts, one behind the other
 pub line_written : (old k x y e a b c d : List ℕ) → a ≡ old ++ k → b ≡ a ++ x → c ≡ b ++ y → d ≡ c ++ e → d ≡ old ++ (((k ++ x) ++ y) ++ e)
 line_written old k x y e a b c d p q s h =
     h ∙ ap (λ l. l ++ e) (s ∙ ap (λ l. l ++ y) (q ∙ ap (λ l. l ++ x) p)) ∙ ap (λ l. (l ++ y) ++ e) (append_assoc old k x) ∙ ap (λ l. l ++ e) (append_assoc old (k ++ x) y) ∙ append_assoc old ((k ++ x) ++ y) e
+
+-- ---- one row more
+pub rows_more : (f : Row → List ℕ) (rows : List Row) (i : ℕ) (old text longer : List ℕ) → i < length rows → longer ≡ text ++ f (get_or rows i empty_row) → text ≡ old ++ flat_map f (take i rows)
+    → longer ≡ old ++ flat_map f (take (i + 1) rows)
+rows_more f rows i old text longer within = list_more f rows i (get_or rows i empty_row) old text longer (slice_get-get_or rows i empty_row within)
+
+pub real_more : (head : Option ℕ) (rows : List Row) (i : ℕ) → i < length rows → AreRealUnder head (take i rows) → IsRealUnder head (get_or rows i empty_row) → AreRealUnder head (take (i + 1) rows)
+real_more head rows i within so_far here =
+    let row = get_or rows i empty_row in
+    subst (AreRealUnder head) (sym (take_more rows i empty_row within))
+    (All-append (IsRealUnder head) (take i rows) (row ∷ []) so_far (All-cons (IsRealUnder head) row [] here (All-nil (IsRealUnder head))))
+
+-- a line of a vector
+pub vector_written : (old key vector end a b c : List ℕ) → a ≡ old ++ key → b ≡ a ++ vector → c ≡ b ++ end → c ≡ old ++ (key ++ vector ++ end)
+vector_written old key vector end a b c p q r = r ∙ ap (λ l. l ++ end) (q ∙ ap (λ l. l ++ vector) p) ∙ ap (λ l. l ++ end) (append_assoc old key vector) ∙ append_assoc old (key ++ vector) end
 
 -- ---- references
 pub drop_at : {A : Type 0} (xs : List A) (i : ℕ) (x : A) → slice_get xs i ≡ Some x → drop i xs ≡ x ∷ drop (i + 1) xs

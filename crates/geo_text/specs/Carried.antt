@@ -3,7 +3,7 @@
 -- These are the places of the points; their `Cd`, where it is a vector and there is a point; the primitives with their points, closed or
 -- open; the `uv` of the vertices, where it is a vector and there is a vertex; their `N`, where it is a vector and there is a closed primitive,
 -- and zero on the vertices of open ones; and the groups of primitives that have a member, in order of first use by a primitive.
-use Rattle.std.specs.Prelude.{⊤, ℕ, ◌≤◌, unsigned_abs, All, Bool, true, false, if◌then◌else◌, List, [], ◌∷◌, ◌++◌, map, Option, None, Some, is_some, codes}
+use Rattle.std.specs.Prelude.{ℕ, Bool, true, false, if◌then◌else◌, List, [], ◌∷◌, ◌++◌, map, Option, None, Some, is_some, codes}
 use Rattle.std.specs.List.{list_any, flat_map}
 use Rattle.sop_model.specs.declared.geo.Geo.{Geo}
 use Rattle.sop_model.specs.declared.geo.Row.{Row}
@@ -14,10 +14,7 @@ use Rattle.sop_model.specs.declared.value.Value.TheVariants as value
 use Rattle.sop_model.specs.Values.{zero_vector}
 use Rattle.sop_model.specs.Places.{place_of}
 use Rattle.sop_model.specs.Vertices.{corners_of}
-use Rattle.sop_fixed.specs.Numbers.{largest_size}
-use Rattle.sop_fixed.specs.declared.vec3.Vec3.{Vec3}
-use Rattle.sop_model.specs.declared.class.Class.{Class}
-use Rattle.sop_model.specs.Geometry.{empty_row, no_heads, position_head, rows_of}
+use Rattle.sop_model.specs.Geometry.{empty_row, no_heads, position_head}
 use Rattle.sop_model.specs.Merge.{first_names}
 use Rattle.geo_text.specs.ObjLines.{is_filled}
 use Rattle.geo_text.specs.ObjTaking.{head_if}
@@ -74,16 +71,3 @@ carried g = record {
   prims = map (carried_prim g) g.prims;
   detail_row = empty_row;
 }
-
--- NUMBERS
-
-abbrev pub IsRealVector : Vec3 → Type 0
-IsRealVector v = (unsigned_abs v.x ≤ largest_size) × (unsigned_abs v.y ≤ largest_size) × (unsigned_abs v.z ≤ largest_size)
-
-abbrev pub IsRealValue : Value → Type 0
-IsRealValue (value.Vector v) = IsRealVector v
-IsRealValue other = ⊤
-
--- the components of each vector are in range, as those of each geometry that is kept are
-pub record AreReal (g : Geo) : Type 0 where
-  pub rows : (class : Class) → All (λ row. All IsRealValue row.values) (rows_of g class)

@@ -8,9 +8,11 @@ pub mod Carried
 pub mod ObjScan
 pub mod ObjReferences
 pub mod ObjTaking
+pub mod ObjColumns
 pub mod ObjRun
 pub mod ObjLoop
 pub mod ObjSurvey
 pub mod ObjFlags
 pub mod ObjWords
 pub mod ObjPieces
+pub mod ObjRange

@@ -7,11 +7,6 @@ use Rattle.sop_fixed.specs.declared.vec3.Vec3.{Vec3}
 use Rattle.geo_text.specs.ObjStatements.{Place}
 use Rattle.geo_text.specs.ObjLines.{joint, joined, is_filled, is_blank, words_of}
 
--- a byte or joint and what stands behind it
-abbrev pub from_first : Option (ℕ × Bor (List ℕ)) → List ℕ
-from_first None = []
-from_first (Some first) = first.0 ∷ joined first.1.now
-
 abbrev pub is_line_feed : ℕ → Bool
 is_line_feed b = b == 10
 

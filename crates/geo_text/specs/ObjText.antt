@@ -41,20 +41,20 @@ vector_head set name = option_and_then (λ i. if_vector i (slice_get set.heads i
 abbrev pub vector_under : ℕ → Row → Vec3
 vector_under head row = vector_in (slice_get row.values head)
 
-abbrev pub vector_text : Vec3 → List ℕ
-vector_text v = codes " " ++ decimal_of v.x ++ codes " " ++ decimal_of v.y ++ codes " " ++ decimal_of v.z
+abbrev pub spaced_vector : Vec3 → List ℕ
+spaced_vector v = codes " " ++ decimal_of v.x ++ codes " " ++ decimal_of v.y ++ codes " " ++ decimal_of v.z
 
 abbrev pub colour_text : Option ℕ → Row → List ℕ
 colour_text None row = []
-colour_text (Some head) row = vector_text (vector_under head row)
+colour_text (Some head) row = spaced_vector (vector_under head row)
 
 abbrev pub point_line : Option ℕ → Row → List ℕ
-point_line colour row = codes "v" ++ vector_text (place_of row) ++ colour_text colour row ++ codes "\n"
+point_line colour row = codes "v" ++ spaced_vector (place_of row) ++ colour_text colour row ++ codes "\n"
 
 -- a line for each row, where there is the attribute
 abbrev pub vector_lines : List ℕ → Option ℕ → List Row → List ℕ
 vector_lines key None rows = []
-vector_lines key (Some head) rows = flat_map (λ row. key ++ vector_text (vector_under head row) ++ codes "\n") rows
+vector_lines key (Some head) rows = flat_map (λ row. key ++ spaced_vector (vector_under head row) ++ codes "\n") rows
 
 abbrev pub points_text : Geo → List ℕ
 points_text g = flat_map (point_line (vector_head g.point (codes "Cd"))) g.points
@@ -109,13 +109,13 @@ abbrev pub change_of_groups : Geo → List Bool → Primitive → List ℕ
 change_of_groups g before p = if same_flags before p.row.flags then [] else groups_line (groups_of g p)
 
 -- primitives, where so many vertices stand before them, and the one before is in the groups with these flags
-abbrev pub prims_text : Geo → ℕ → List Bool → List Primitive → List ℕ
-prims_text g before flags [] = []
-prims_text g before flags (p ∷ prims) = change_of_groups g flags p ++ shape_line g before p ++ prims_text g (before + size_of p) p.row.flags prims
+abbrev pub shapes_text : Geo → ℕ → List Bool → List Primitive → List ℕ
+shapes_text g before flags [] = []
+shapes_text g before flags (p ∷ prims) = change_of_groups g flags p ++ shape_line g before p ++ shapes_text g (before + size_of p) p.row.flags prims
 
 -- a primitive before the first would be in none
 abbrev pub no_flags : Geo → List Bool
 no_flags g = map (λ group. false) g.prim.groups
 
 abbrev pub text_of : Geo → List ℕ
-text_of g = points_text g ++ textures_text g ++ normals_text g ++ prims_text g 0 (no_flags g) g.prims
+text_of g = points_text g ++ textures_text g ++ normals_text g ++ shapes_text g 0 (no_flags g) g.prims

@@ -1,14 +1,14 @@
 //! Geometries of rows that are taken point by point and primitive by primitive.
-ghost use Rattle.std.specs.Prelude.{◌≡◌, ◌++◌, map, IfOk, OnOk, position};
-ghost use Rattle.std.specs.Str.{bytes_eq};
-ghost use Rattle.geo_text.specs.ObjTaking.{head_if, value_if, made_of, flag_more, point_row, vertex_row, vertex_taken, prim_from};
+ghost use Rattle.std.specs.Prelude.{◌≡◌, ◌++◌, map, IfOk, OnOk};
+ghost use Rattle.sop_model.specs.Geometry.{empty_geo};
+ghost use Rattle.geo_text.specs.ObjTaking.{value_if, made_of, flag_more, point_row, vertex_row, vertex_taken, prim_from};
 
-use crate::taker::{Attributes, ObjTaker, Vertex};
+use crate::frame::{begun, group_named};
+use crate::taker::{Attributes, ObjTaker, Room, Vertex};
 use crate::zero::zero_vector;
 use sop_fixed::Vec3;
 use sop_model::{
-    Corner, CornerList, FlagList, Geo, Head, HeadList, HeadSet, Kind, PrimList, Primitive, Row,
-    RowList, Value, ValueList,
+    Corner, CornerList, FlagList, Geo, PrimList, Primitive, Row, RowList, Value, ValueList,
 };
 use sop_outside::{Items, Text, TextList};
 use std::alloc::{AllocError, Global};
@@ -25,7 +25,9 @@ pub struct GeoMaker {
 
 impl GeoMaker {
     /// Nothing was taken, and there are no attributes beside `P`. It takes no memory.
-    pub fn new(alloc: Global) -> GeoMaker {
+    pub fn new(alloc: Global) -> GeoMaker
+        ensures { made_of result.attributes result.points result.groups result.prims.items ≡ empty_geo }
+    {
         GeoMaker {
             alloc,
             attributes: Attributes {
@@ -50,27 +52,12 @@ impl GeoMaker {
             groups,
             prims,
         } = self;
-        let mut geo = Geo::plain(alloc, points, PrimList::from_vec(alloc, prims)?)?;
-        add_head(alloc, &mut geo.point, attributes.colour, "Cd")?;
-        add_head(alloc, &mut geo.vertex, attributes.texture, "uv")?;
-        add_head(alloc, &mut geo.vertex, attributes.normal, "N")?;
+        let mut geo = begun(alloc, attributes)?;
+        geo.points = points;
+        geo.prims = PrimList::from_vec(alloc, prims)?;
         geo.prim.groups = groups;
         Ok(geo)
     }
-}
-
-/// Puts a vector of this name behind the attributes, where it is wanted.
-fn add_head(alloc: Global, set: &mut HeadSet, is_wanted: bool, name: &str) -> Result<(), AllocError>
-    ensures heads { OnOk result (set.new.heads ≡ set.old.heads ++ head_if is_wanted name.now) }
-    ensures groups { OnOk result (set.new.groups ≡ set.old.groups) }
-{
-    if !is_wanted {
-        return Ok(());
-    }
-    set.heads.add(Head {
-        name: Text::from_str(alloc, name)?,
-        kind: Kind::Vector,
-    })
 }
 
 impl ObjTaker for GeoMaker {
@@ -78,11 +65,11 @@ impl ObjTaker for GeoMaker {
 
     ghost taken = { λ m. made_of m.attributes m.points m.groups m.prims.items };
 
-    fn begin(&mut self, has: Attributes, points: u32) -> Result<(), AllocError> {
+    fn begin(&mut self, has: Attributes, room: Room) -> Result<(), AllocError> {
         self.attributes = has;
-        self.points = RowList::with_capacity(self.alloc, points as usize)?;
+        self.points = RowList::with_capacity(self.alloc, room.points)?;
         self.groups = TextList::new(self.alloc);
-        self.prims = Vec::new(self.alloc);
+        self.prims = Vec::with_capacity(self.alloc, room.prims)?;
         Ok(())
     }
 
@@ -96,10 +83,7 @@ impl ObjTaker for GeoMaker {
     }
 
     fn find_group(&self, name: &str) -> Option<usize> {
-        self.groups
-            .as_slice()
-            .iter()
-            .position(|group| group.as_str() == name)
+        group_named(&self.groups, name)
     }
 
     fn take_group(&mut self, name: Text) -> Result<(), AllocError> {

@@ -27,8 +27,9 @@ pub fn take_obj<T: ObjTaker>(alloc: Global, bytes: &[u8], taker: &mut T) -> Resu
         Ok(survey) => survey,
         Err(fault) => return Err(fault),
     };
+    let room = survey.room();
     let totals = survey.into_totals();
-    taker.begin(totals.attributes, totals.counts.points as u32)?;
+    taker.begin(totals.attributes, room)?;
     read_lines(alloc, text, &totals, taker)
 }
 

@@ -5,10 +5,11 @@ ghost use Rattle.sop_model.specs.Geometry.{IsReadable, IsGood, Fits, heads_of, r
 ghost use Rattle.sop_model.specs.Vertices.{corners_of, first_vertex_in, size_of};
 ghost use Rattle.sop_model.specs.Rows.{no_prim};
 ghost use Rattle.geo_text.specs.ObjMeaning.{meaning};
-ghost use Rattle.geo_text.specs.Carried.{AreReal, carried};
+ghost use Rattle.geo_text.specs.Carried.{carried};
+ghost use Rattle.geo_text.specs.ObjRange.{IsRealVector, IsRealUnder, AreRealUnder, AreReal};
 ghost use Rattle.geo_text.specs.ObjText as written;
 ghost use Rattle.geo_text.specs.ObjFlags.{flags_before, name_if};
-ghost use Rattle.geo_text.specs.ObjText.{text_of, vector_text, vector_under, colour_text, point_line, vector_lines, points_text, parts_text, references_text, closed_parts, shape_line, same_flags, groups_line, groups_of, change_of_groups, prims_text, no_flags};
+ghost use Rattle.geo_text.specs.ObjText.{text_of, spaced_vector, vector_under, colour_text, point_line, vector_lines, points_text, parts_text, references_text, closed_parts, shape_line, same_flags, groups_line, groups_of, change_of_groups, shapes_text, no_flags};
 
 use crate::zero::zero_vector;
 use itoa::Buffer;
@@ -35,7 +36,8 @@ fn vector_at<V: GeoView>(view: &V, class: Class, head: u32, element: u32) -> Vec
     requires readable { IsReadable (V.geo view.now) }
     requires head { head < length (heads_of (V.geo view.now) class).heads }
     requires element { element < count_of (V.geo view.now) class }
-    ensures { result ≡ vector_under head (slice_index_or (rows_of (V.geo view.now) class) element empty_row) }
+    ensures value { result ≡ vector_under head (slice_index_or (rows_of (V.geo view.now) class) element empty_row) }
+    ensures real { IsRealVector (vector_under head (slice_index_or (rows_of (V.geo view.now) class) element empty_row)) }
 {
     match view.value(class, head, element) {
         ValueRef::Vector(vector) => vector,
@@ -44,7 +46,7 @@ fn vector_at<V: GeoView>(view: &V, class: Class, head: u32, element: u32) -> Vec
 }
 
 fn write_vector(vector: Vec3, text: &mut Vec<u8>) -> Result<(), AllocError>
-    ensures { OnOk result (text.new.items ≡ text.old.items ++ vector_text vector) }
+    ensures { OnOk result (text.new.items ≡ text.old.items ++ spaced_vector vector) }
 {
     text.extend_from_slice(b" ")?;
     print(vector.x, text)?;
@@ -63,7 +65,8 @@ fn write_colour<V: GeoView>(
     requires readable { IsReadable (V.geo view.now) }
     requires head { IfSome colour (λ head. head < length (V.geo view.now).point.heads) }
     requires point { point < length (V.geo view.now).points }
-    ensures { OnOk result (text.new.items ≡ text.old.items ++ colour_text colour (slice_index_or (V.geo view.now).points point empty_row)) }
+    ensures written { OnOk result (text.new.items ≡ text.old.items ++ colour_text colour (slice_index_or (V.geo view.now).points point empty_row)) }
+    ensures real { OnOk result (IsRealUnder colour (slice_index_or (V.geo view.now).points point empty_row)) }
 {
     match colour {
         Some(head) => write_vector(vector_at(view, Class::Point, head, point), text),
@@ -80,7 +83,9 @@ fn write_point<V: GeoView>(
     requires readable { IsReadable (V.geo view.now) }
     requires head { IfSome colour (λ head. head < length (V.geo view.now).point.heads) }
     requires point { point < length (V.geo view.now).points }
-    ensures { OnOk result (text.new.items ≡ text.old.items ++ point_line colour (slice_index_or (V.geo view.now).points point empty_row)) }
+    ensures written { OnOk result (text.new.items ≡ text.old.items ++ point_line colour (slice_index_or (V.geo view.now).points point empty_row)) }
+    ensures place { OnOk result (IsRealUnder (Some 0) (slice_index_or (V.geo view.now).points point empty_row)) }
+    ensures colour { OnOk result (IsRealUnder colour (slice_index_or (V.geo view.now).points point empty_row)) }
 {
     text.extend_from_slice(b"v")?;
     write_vector(vector_at(view, Class::Point, 0, point), text)?;
@@ -91,7 +96,9 @@ fn write_point<V: GeoView>(
 
 fn write_points<V: GeoView>(view: &V, text: &mut Vec<u8>) -> Result<(), AllocError>
     requires { IsReadable (V.geo view.now) }
-    ensures { OnOk result (text.new.items ≡ text.old.items ++ points_text (V.geo view.now)) }
+    ensures written { OnOk result (text.new.items ≡ text.old.items ++ points_text (V.geo view.now)) }
+    ensures places { OnOk result (AreRealUnder (Some 0) (V.geo view.now).points) }
+    ensures colours { OnOk result (AreRealUnder (written.vector_head (V.geo view.now).point (codes "Cd")) (V.geo view.now).points) }
 {
     let colour = vector_head(view, Class::Point, "Cd");
     for point in 0..view.count(Class::Point) {
@@ -109,7 +116,8 @@ fn write_vectors<V: GeoView>(
 ) -> Result<(), AllocError>
     requires readable { IsReadable (V.geo view.now) }
     requires head { IfSome head (λ head. head < length (V.geo view.now).vertex.heads) }
-    ensures { OnOk result (text.new.items ≡ text.old.items ++ vector_lines keyword.now head (rows_of (V.geo view.now) Class.Vertex)) }
+    ensures written { OnOk result (text.new.items ≡ text.old.items ++ vector_lines keyword.now head (rows_of (V.geo view.now) Class.Vertex)) }
+    ensures real { OnOk result (AreRealUnder head (rows_of (V.geo view.now) Class.Vertex)) }
 {
     let Some(head) = head else {
         return Ok(());
@@ -326,7 +334,7 @@ fn write_change<V: GeoView>(view: &V, prim: u32, text: &mut Vec<u8>) -> Result<(
 
 fn write_prims<V: GeoView>(view: &V, text: &mut Vec<u8>) -> Result<(), AllocError>
     requires { IsReadable (V.geo view.now) }
-    ensures { OnOk result (text.new.items ≡ text.old.items ++ prims_text (V.geo view.now) 0 (no_flags (V.geo view.now)) (V.geo view.now).prims) }
+    ensures { OnOk result (text.new.items ≡ text.old.items ++ shapes_text (V.geo view.now) 0 (no_flags (V.geo view.now)) (V.geo view.now).prims) }
 {
     let parts = closed_parts(view);
     for prim in 0..view.count(Class::Prim) {
@@ -338,7 +346,8 @@ fn write_prims<V: GeoView>(view: &V, text: &mut Vec<u8>) -> Result<(), AllocErro
 
 fn whole_text<V: GeoView>(alloc: Global, view: &V) -> Result<Vec<u8>, AllocError>
     requires { IsReadable (V.geo view.now) }
-    ensures { IfOk result (λ text. text.items ≡ text_of (V.geo view.now)) }
+    ensures written { IfOk result (λ text. text.items ≡ text_of (V.geo view.now)) }
+    ensures real { OnOk result (AreReal (V.geo view.now)) }
 {
     let mut text = Vec::new(alloc);
     write_points(view, &mut text)?;
@@ -352,12 +361,12 @@ fn whole_text<V: GeoView>(alloc: Global, view: &V) -> Result<Vec<u8>, AllocError
 
 /// The OBJ text of a geometry: a line `v` for each point, with its colour where points have a vector `Cd`; lines `vt` and `vn` for
 /// each vertex, where vertices have a vector `uv` or `N`; and a line `f` or `l` for each primitive, with lines `g` where the groups
-/// change. Read again, the text of a geometry within the limits means what it carries. The time is linear in the values, flags and
-/// vertices of the geometry.
+/// change. Read again, the text of a well made geometry within the limits means what it carries. The time is
+/// linear in the values, flags and vertices of the geometry.
 pub fn write_obj<V: GeoView>(alloc: Global, view: &V) -> Result<Vec<u8>, AllocError>
     requires { IsReadable (V.geo view.now) }
     ensures written { IfOk result (λ text. text.items ≡ text_of (V.geo view.now)) }
-    ensures back { IfOk result (λ text. IsGood (V.geo view.now) → Fits (V.geo view.now) → AreReal (V.geo view.now) → meaning text.items ≡ Ok (carried (V.geo view.now))) }
+    ensures back { IfOk result (λ text. IsGood (V.geo view.now) → Fits (V.geo view.now) → meaning text.items ≡ Ok (carried (V.geo view.now))) }
 {
     let text = whole_text(alloc, view)?;
     Ok(text)

@@ -1,13 +1,11 @@
 // References to points, texture coordinates and normals.
-ghost use Rattle.std.specs.Prelude.{◌≡◌, ℕ, ◌<◌, ◌≤◌, ◌∷◌, ◌==◌, ◌-◌, IfOk, nat_lt, nat_le, ◌&&◌, position};
-ghost use Rattle.sop_fixed.specs.Numerals.{has_minus, after_sign, is_some_digits};
+ghost use Rattle.std.specs.Prelude.{◌≡◌, ℕ, ◌<◌, ◌≤◌, ◌∷◌, ◌==◌, ◌-◌, IfOk, Some, None, if◌then◌else◌, min, nat_lt, nat_le, ◌&&◌, position};
+ghost use Rattle.sop_fixed.specs.Numerals.{has_minus, after_sign, is_some_digits, number_of};
 ghost use Rattle.sop_model.specs.Limits.{most_points};
 ghost use Rattle.geo_text.specs.ObjStatements.{part_of, reference_of};
 ghost use Rattle.geo_text.specs.ObjMeaning.{within, needed, optional, named_by};
 ghost use Rattle.geo_text.specs.ObjSurvey.{has_texture, has_normal};
 ghost use Rattle.geo_text.specs.ObjReferences.{told, slash_parts, parts_left, IsNextPart, goes_on, reference_seen, AreCounts, AreSoFar};
-
-use sop_fixed::{are_digits, read_digits};
 
 /// Why a word of a line is refused.
 #[derive(Clone, Copy, Debug, PartialEq, Eq)]
@@ -109,10 +107,23 @@ fn split_sign(text: &[u8]) -> (bool, &[u8])
     }
 }
 
-fn is_some_digits(text: &[u8]) -> bool
-    ensures { result ≡ is_some_digits text.now }
+/// The number that digits say, where a text is one digit or more; the most of 64 bits where it is more.
+fn read_index(text: &[u8]) -> Option<u64>
+    ensures { result ≡ (if is_some_digits text.now then Some (min (number_of text.now) u64.MAX) else None) }
 {
-    !text.is_empty() && are_digits(text)
+    if text.is_empty() {
+        return None;
+    }
+    let mut number = 0_u64;
+    for byte in text {
+        if !byte.is_ascii_digit() {
+            return None;
+        }
+        number = number
+            .saturating_mul(10)
+            .saturating_add(u64::from(*byte - b'0'));
+    }
+    Some(number)
 }
 
 /// The element that a number from 1 to `so_far` counts back to.
@@ -145,10 +156,9 @@ fn needed(part: &[u8], whole: usize, so_far: usize) -> Result<usize, WordFault>
     ensures below { IfOk result (λ element. element < whole) }
 {
     let (is_back, digits) = split_sign(part);
-    if !is_some_digits(digits) {
+    let Some(number) = read_index(digits) else {
         return Err(WordFault::Number);
-    }
-    let number = read_digits(digits, u64::MAX);
+    };
     let element = if is_back {
         back(number, so_far)
     } else {
@@ -195,16 +205,11 @@ pub(crate) fn read_reference(
     })
 }
 
-/// Whether a reference has a texture coordinate.
-pub(crate) fn has_texture(word: &[u8]) -> bool
-    ensures { result ≡ has_texture word.now }
+/// Whether a reference has a texture coordinate, and whether it has a normal.
+pub(crate) fn parts_behind(word: &[u8]) -> (bool, bool)
+    ensures texture { result.0 ≡ has_texture word.now }
+    ensures normal { result.1 ≡ has_normal word.now }
 {
-    !split_parts(word).texture.is_empty()
-}
-
-/// Whether a reference has a normal.
-pub(crate) fn has_normal(word: &[u8]) -> bool
-    ensures { result ≡ has_normal word.now }
-{
-    !split_parts(word).normal.is_empty()
+    let parts = split_parts(word);
+    (!parts.texture.is_empty(), !parts.normal.is_empty())
 }

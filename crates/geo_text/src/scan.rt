@@ -1,10 +1,9 @@
 // Lines and words of an OBJ text, read from its front.
-ghost use Rattle.std.specs.Prelude.{◌≡◌, ◌∷◌, ◌++◌, ◌<◌, ◌≤◌, ◌≢◌, ◌||◌, ◌==◌, length, take, drop, option_map, true, false, IfSome};
-ghost use Rattle.geo_text.specs.ObjLines.{behind_end, joined, joint, is_blank, without_mark};
-ghost use Rattle.geo_text.specs.ObjScan.{from_first, is_line_feed, joined_left, behind_line, words_here, words_left, ends_word, is_word, is_apart, begins_word, begins_blank, ends_in};
+ghost use Rattle.std.specs.Prelude.{◌≡◌, ◌∷◌, ◌++◌, ◌<◌, ◌≤◌, length, take, drop, option_map, true, false, IfSome, MatchOption};
+ghost use Rattle.geo_text.specs.ObjLines.{behind_end, joined, is_blank, without_mark};
+ghost use Rattle.geo_text.specs.ObjScan.{joined_left, behind_line, words_here, words_left, is_word, is_apart, begins_word, begins_blank, ends_in};
 
-/// Stands for a backslash and the end of a line behind it.
-const JOINT: u16 = 256;
+use memchr::{memchr_iter, memchr2};
 
 /// The text without the byte order mark at its start.
 pub(crate) fn without_mark(bytes: &[u8]) -> &[u8]
@@ -18,7 +17,8 @@ pub(crate) fn without_mark(bytes: &[u8]) -> &[u8]
 
 /// What stands behind LF or CR LF at the start.
 fn behind_end(text: &[u8]) -> Option<&[u8]>
-    ensures { option_map (λ rest. rest.now) result ≡ behind_end text.now }
+    ensures end { option_map (λ rest. rest.now) result ≡ behind_end text.now }
+    ensures shorter { IfSome result (λ rest. length rest.now < length text.now) }
 {
     match text {
         [b'\n', rest @ ..] => Some(rest),
@@ -27,32 +27,12 @@ fn behind_end(text: &[u8]) -> Option<&[u8]>
     }
 }
 
-/// The first byte, or a joint, and what stands behind it.
-fn next_byte(text: &[u8]) -> Option<(u16, &[u8])>
-    ensures joined { joined text.now ≡ from_first result }
-    ensures shorter { IfSome result (λ first. length first.1.now < length text.now) }
-    ensures byte { IfSome result (λ first. first.0 ≢ joint → text.now ≡ first.0 ∷ first.1.now) }
+/// What stands behind a backslash, without the end of the line that it joins.
+fn behind_backslash(text: &[u8]) -> &[u8]
+    ensures line { behind_line (joined (92 ∷ text.now)) ≡ behind_line (joined result.now) }
+    ensures within { length result.now ≤ length text.now }
 {
-    match text {
-        [] => None,
-        [b'\\', rest @ ..] => match behind_end(rest) {
-            Some(more) => Some((JOINT, more)),
-            None => Some((u16::from(b'\\'), rest)),
-        },
-        [byte, rest @ ..] => Some((u16::from(*byte), rest)),
-    }
-}
-
-fn is_line_feed(byte: u16) -> bool
-    ensures { result ≡ is_line_feed byte }
-{
-    byte == 10
-}
-
-fn is_blank(byte: u16) -> bool
-    ensures { result ≡ is_blank byte }
-{
-    matches!(byte, 32 | 9 | 13 | 11 | 12 | JOINT)
+    behind_end(text).unwrap_or(text)
 }
 
 /// What stands behind the end of the first line, where it has one.
@@ -61,13 +41,32 @@ pub(crate) fn next_line(text: &[u8]) -> Option<&[u8]>
     ensures shorter { IfSome result (λ rest. length rest.now < length text.now) }
 {
     let mut rest = text;
-    while let Some((byte, more)) = next_byte(rest) {
-        if is_line_feed(byte) {
+    while let Some(at) = memchr2(b'\n', b'\\', rest) {
+        let more = &rest[at + 1..];
+        if rest[at] == b'\n' {
             return Some(more);
         }
-        rest = more;
+        rest = behind_backslash(more);
     }
     None
+}
+
+fn is_blank(byte: u8) -> bool
+    ensures { result ≡ is_blank byte }
+{
+    byte <= b' ' && matches!(byte, b' ' | b'\t' | b'\r' | 11 | 12)
+}
+
+/// What stands behind a blank at the start.
+fn behind_blank(text: &[u8]) -> Option<&[u8]>
+    ensures blank { MatchOption result (begins_blank (joined text.now) ≡ false) (λ rest. words_here rest.now ≡ words_here text.now) }
+    ensures shorter { IfSome result (λ rest. length rest.now < length text.now) }
+{
+    match text {
+        [b'\\', rest @ ..] => behind_end(rest),
+        [byte, rest @ ..] if is_blank(*byte) => Some(rest),
+        _ => None,
+    }
 }
 
 /// The text without the blanks at its start.
@@ -77,19 +76,21 @@ fn skip_blanks(text: &[u8]) -> &[u8]
     ensures within { length result.now ≤ length text.now }
 {
     let mut rest = text;
-    while let Some((byte, more)) = next_byte(rest) {
-        if !is_blank(byte) {
-            return rest;
-        }
+    while let Some(more) = behind_blank(rest) {
         rest = more;
     }
     rest
 }
 
-fn ends_word(byte: u16) -> bool
-    ensures { result ≡ ends_word byte }
+/// Whether no word goes on into a text.
+fn is_apart(text: &[u8]) -> bool
+    ensures { result ≡ is_apart (joined text.now) }
 {
-    is_blank(byte) || is_line_feed(byte)
+    match text {
+        [] => true,
+        [b'\\', rest @ ..] => behind_end(rest).is_some(),
+        [byte, ..] => *byte <= b' ' && matches!(*byte, b' ' | b'\t' | b'\n' | b'\r' | 11 | 12),
+    }
 }
 
 /// How many bytes stand before the first blank or the end of the line.
@@ -100,16 +101,14 @@ fn word_len(text: &[u8]) -> usize
     ensures rest { is_apart (joined (drop result text.now)) ≡ true }
 {
     let mut len = 0;
-    while let Some((byte, _)) = next_byte(&text[len..]) {
-        if ends_word(byte) {
-            return len;
-        }
+    while !is_apart(&text[len..]) {
         len += 1;
     }
     len
 }
 
 /// The next word of the line, and what stands behind it. None where the line ends, or a comment begins.
+#[inline(always)]
 pub(crate) fn next_word(text: &[u8]) -> Option<(&[u8], &[u8])>
     ensures words { words_here text.now ≡ words_left result }
     ensures shorter { IfSome result (λ next. length next.1.now < length text.now) }
@@ -133,23 +132,10 @@ fn begins_word(word: &[u8]) -> bool
     }
 }
 
-/// Whether a line of the file ends here.
-fn ends_line(byte: u16) -> bool
-    ensures { result ≡ (is_line_feed byte || byte == joint) }
-{
-    is_line_feed(byte) || byte == JOINT
-}
-
 /// How many ends of lines a text has, those of joined lines too.
 pub(crate) fn ends_in(text: &[u8]) -> usize
     ensures value { result ≡ ends_in (joined text.now) }
     ensures within { result ≤ length text.now }
 {
-    let mut rest = text;
-    let mut count = 0;
-    while let Some((byte, more)) = next_byte(rest) {
-        count += usize::from(ends_line(byte));
-        rest = more;
-    }
-    count
+    memchr_iter(b'\n', text).count()
 }

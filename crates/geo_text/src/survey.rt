@@ -1,6 +1,6 @@
 // What the lines of an OBJ text have, counted before they are judged.
 ghost use Rattle.sop_model.specs.Values.{zero_vector};
-ghost use Rattle.std.specs.Prelude.{◌≡◌, ◌++◌, ◌∷◌, [], false, ◌<◌, ◌≤◌, length, unwrap_or, OnOk, IfOk, IfErr};
+ghost use Rattle.std.specs.Prelude.{◌≡◌, ◌++◌, ◌∷◌, [], false, ◌+◌, ◌||◌, ◌<◌, ◌≤◌, length, unwrap_or, OnOk, IfOk, IfErr};
 ghost use Rattle.std.specs.List.{list_any};
 ghost use Rattle.geo_text.specs.ObjLines.{joined};
 ghost use Rattle.geo_text.specs.ObjScan.{words_here};
@@ -8,9 +8,9 @@ ghost use Rattle.geo_text.specs.ObjSurvey.{Seen, nothing_seen, has_texture, has_
 
 use crate::obj_fault::ObjFault;
 use crate::reader::{Keyword, keyword_of};
-use crate::reference::{Counts, has_normal, has_texture};
+use crate::reference::{Counts, parts_behind};
 use crate::scan::{next_line, next_word};
-use crate::taker::Attributes;
+use crate::taker::{Attributes, Room};
 use crate::totals::Totals;
 use crate::vectors::{has_six, normal_in, texture_in};
 use crate::zero::zero_vector;
@@ -35,7 +35,7 @@ pub(crate) struct Survey {
     pub(crate) normals: Vec<Vec3>,
 }
 
-/// What the references of a line have.
+/// What some references have.
 #[derive(Clone, Copy)]
 struct References {
     count: usize,
@@ -43,23 +43,41 @@ struct References {
     normal: bool,
 }
 
-fn references_in(words: &[u8]) -> References
+impl References {
+    /// With one more.
+    fn with(self, word: &[u8]) -> References
+        requires { self.count < usize.MAX }
+        ensures count { result.count ≡ self.count + 1 }
+        ensures texture { result.texture ≡ (self.texture || has_texture word.now) }
+        ensures normal { result.normal ≡ (self.normal || has_normal word.now) }
+    {
+        let count = self.count + 1;
+        if self.texture && self.normal {
+            return References { count, ..self };
+        }
+        let (texture, normal) = parts_behind(word);
+        References {
+            count,
+            texture: self.texture || texture,
+            normal: self.normal || normal,
+        }
+    }
+}
+
+/// What the references of a line have, and whether there was a texture coordinate or a normal before them.
+fn references_in(words: &[u8], has: Attributes) -> References
     ensures count { result.count ≡ length (words_here words.now) }
-    ensures texture { result.texture ≡ list_any has_texture (words_here words.now) }
-    ensures normal { result.normal ≡ list_any has_normal (words_here words.now) }
+    ensures texture { result.texture ≡ (has.texture || list_any has_texture (words_here words.now)) }
+    ensures normal { result.normal ≡ (has.normal || list_any has_normal (words_here words.now)) }
 {
     let mut references = References {
         count: 0,
-        texture: false,
-        normal: false,
+        texture: has.texture,
+        normal: has.normal,
     };
     let mut rest = words;
     while let Some((word, more)) = next_word(rest) {
-        references = References {
-            count: references.count + 1,
-            texture: references.texture || has_texture(word),
-            normal: references.normal || has_normal(word),
-        };
+        references = references.with(word);
         rest = more;
     }
     references
@@ -81,6 +99,15 @@ impl Survey {
             },
             textures: Vec::new(alloc),
             normals: Vec::new(alloc),
+        }
+    }
+
+    /// How many elements of a geometry there are.
+    pub(crate) fn room(&self) -> Room {
+        Room {
+            points: self.points,
+            prims: self.prims,
+            vertices: self.vertices,
         }
     }
 
@@ -132,7 +159,7 @@ impl Survey {
         ensures within { OnOk result (is_past (survey_seen self.new) ≡ false) }
         ensures err { IfErr result (λ f. IsPast f (shape_seen (words_here words.now) (survey_seen self.old))) }
     {
-        let references = references_in(words);
+        let references = references_in(words, self.attributes);
         if references.count == 0 {
             return Ok(());
         }
@@ -141,8 +168,8 @@ impl Survey {
         }
         self.prims += 1;
         self.vertices += references.count;
-        self.attributes.texture = self.attributes.texture || references.texture;
-        self.attributes.normal = self.attributes.normal || references.normal;
+        self.attributes.texture = references.texture;
+        self.attributes.normal = references.normal;
         Ok(())
     }
 

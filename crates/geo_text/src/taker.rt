@@ -28,6 +28,14 @@ pub struct Vertex {
     pub normal: Vec3,
 }
 
+/// How many elements will come. Room for them is made beforehand; it says nothing of what is taken.
+#[derive(Clone, Copy, Debug)]
+pub struct Room {
+    pub points: usize,
+    pub prims: usize,
+    pub vertices: usize,
+}
+
 /// What takes a geometry that is read, point by point and primitive by primitive. After an `Err`, which is want of memory, what
 /// was taken is of no use.
 pub trait ObjTaker {
@@ -37,8 +45,8 @@ pub trait ObjTaker {
     /// What was taken so far.
     ghost taken: { Self → Geo };
 
-    /// Begins a geometry without elements, in place of what was taken before. It will get so many points.
-    fn begin(&mut self, has: Attributes, points: u32) -> Result<(), AllocError>
+    /// Begins a geometry without elements, in place of what was taken before, with room for what will come.
+    fn begin(&mut self, has: Attributes, room: Room) -> Result<(), AllocError>
         ensures attributes { OnOk result (attributes self.new ≡ has) }
         ensures taken { OnOk result (taken self.new ≡ begun has) };
 

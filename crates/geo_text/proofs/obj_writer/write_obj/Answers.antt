@@ -6,4 +6,4 @@ use Rattle.geo_text.proofs.obj_writer.write_obj.Goals as goal
 
 pub returns-clause-back : goal.returns-clause-back
 returns-clause-back g c =
-    λ good fits real. subst (λ t. meaning t ≡ Ok (carried (g.V.GeoView.geo c.args.view.now))) (sym c.in_ok-text.ensures) (round_trip (g.V.GeoView.geo c.args.view.now) good fits real)
+    λ good fits. subst (λ t. meaning t ≡ Ok (carried (g.V.GeoView.geo c.args.view.now))) (sym c.in_ok-text.ensures.written) (round_trip (g.V.GeoView.geo c.args.view.now) good fits c.in_ok-text.ensures.real)

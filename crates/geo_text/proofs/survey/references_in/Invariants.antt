@@ -8,8 +8,8 @@ use Rattle.geo_text.proofs.survey.references_in.Given as goal
 abbrev pub invariant-loop-word : goal.invariant-loop-word
 invariant-loop-word l = record {
   count : l.references.count + length (words_here l.rest) ≡ length (words_here l.words);
-  texture : (l.references.texture || list_any has_texture (words_here l.rest)) ≡ list_any has_texture (words_here l.words);
-  normal : (l.references.normal || list_any has_normal (words_here l.rest)) ≡ list_any has_normal (words_here l.words);
+  texture : (l.references.texture || list_any has_texture (words_here l.rest)) ≡ (l.fn.has.texture || list_any has_texture (words_here l.words));
+  normal : (l.references.normal || list_any has_normal (words_here l.rest)) ≡ (l.fn.has.normal || list_any has_normal (words_here l.words));
   fits : l.references.count + length l.rest ≤ length l.words;
 }
 
