@@ -1,18 +1,19 @@
 -- The inputs of a node as the geometries at their keys.
 use Rattle.std.proofs.Common.{◌≡◌, ℕ, List, [], ◌∷◌, refl, sym, ap, ◌∙◌, subst}
-use Rattle.std.specs.Prelude.{Option, None, Some, Result, IfSome, slice_get}
+use Rattle.std.specs.Prelude.{true, false, IsTrue, Option, None, Some, Result, IfSome, slice_get}
 use Rattle.std.specs.Option.{option_and_then, option_map}
 use Rattle.std.proofs.lemmas.List.Elements.{All-head}
 use Rattle.std.proofs.lemmas.Option.{slice_get-map}
 use Rattle.sop_model.specs.declared.geo.Geo.{Geo}
 use Rattle.sop_model.specs.declared.fault.CookStop.{CookStop}
+use Rattle.sop_net.specs.declared.node_type.NodeType.{NodeType}
 use Rattle.sop_vault.specs.Keyed.{at, IsLive}
 use Rattle.sop_vault.specs.Vaults.{VaultMap}
 use Rattle.sop_basic.specs.Basic.{input_at, needing}
 use Rattle.sop_basic.specs.Outcomes.{Outcome, limited}
 use Rattle.sop_basic.specs.Making.{Gives}
 use Rattle.sop_basic.proofs.MakingLemmas.{there_is}
-use Rattle.sop_basic.specs.Cook.{inputs_seen, AreLive}
+use Rattle.sop_basic.specs.Cook.{inputs_seen, hands_on, AreLive}
 
 pub given_live : (v : VaultMap) (keys : List (Option ℕ)) (key : ℕ) → AreLive v keys → slice_get keys 0 ≡ Some (Some key) → IsLive v.geos key
 given_live v [] key live given = absurd (cc)
@@ -53,3 +54,9 @@ pub gives_input : (v new : VaultMap) (keys : List (Option ℕ)) (number key : �
 gives_input v new keys number key go r live given gives =
     let (g, there) = there_is (at v.geos key) (given_live v keys key live given) in
     subst (λ o. Gives v new (limited (needing number o go)) r) (sym (seen_at v keys key g given there)) (gives g there)
+
+-- nothing is asked of a node of another type
+pub not_handed : {P : Type 0} (node known : NodeType) → node ≡ known → hands_on known ≡ false → IsTrue (hands_on node) → P
+not_handed node known is other handed =
+    let both : true ≡ false = sym handed ∙ ap hands_on is ∙ other in
+    absurd (cc)

@@ -1,37 +1,29 @@
--- A geometry of rows in the vault, and a text that gives none.
-use Rattle.std.proofs.Common.{◌≡◌, ℕ, List, sym, ap, ◌∙◌, Bor}
-use Rattle.std.specs.Prelude.{Option, Some, None, Result, Ok, Err, if◌then◌else◌, unwrap_or, option_copied}
+-- A geometry that passes no limit, and a text that gives none.
+use Rattle.std.proofs.Common.{◌≡◌, ℕ, List, sym, ap, subst, ◌∙◌, Bor}
+use Rattle.std.specs.Prelude.{Option, Some, None, Result, Ok, Err, IsErrAnd, if◌then◌else◌, unwrap_or, option_copied}
+use Rattle.std.proofs.lemmas.Result.{err_from_is_err_and}
 use Rattle.std.specs.FinMap.{get}
 use Rattle.sop_model.specs.declared.geo.Geo.{Geo}
 use Rattle.sop_model.specs.declared.fault.Fault.TheVariants as fault
+use Rattle.sop_model.specs.declared.fault.CookStop.{CookStop}
+use Rattle.sop_model.specs.declared.fault.CookStop.TheVariants as stop
 use Rattle.sop_model.specs.Geometry.{Fits}
-use Rattle.sop_model.proofs.LimitsLemmas.{fits-true, fits_within}
+use Rattle.sop_model.proofs.LimitsLemmas.{fits-true}
 use Rattle.geo_text.specs.declared.obj_fault.ObjFault.{ObjFault}
 use Rattle.geo_text.specs.declared.obj_fault.ObjFault.TheVariants as obj
 use Rattle.geo_text.specs.ObjMeaning.{Refusal}
 use Rattle.geo_text.specs.ObjLoop.{IsTold}
-use Rattle.sop_vault.specs.declared.vault_end.VaultEnd.{VaultEnd}
-use Rattle.sop_vault.specs.declared.vault_end.VaultEnd.TheVariants as end
-use Rattle.sop_vault.specs.Refusals.{rows_refused}
-use Rattle.sop_vault.specs.Vaults.{VaultMap, IsAsBefore}
+use Rattle.sop_vault.specs.Vaults.{VaultMap}
 use Rattle.sop_basic.specs.declared.loaded.LoadedFile.{LoadedFile}
 use Rattle.sop_basic.specs.declared.loaded.LoadedFile.TheVariants.{Missing}
 use Rattle.sop_basic.specs.Loads.{Loads, file_in}
-use Rattle.sop_basic.specs.Outcomes.{limited, within_limits}
+use Rattle.sop_basic.specs.Outcomes.{Outcome, limited, within_limits}
 use Rattle.sop_basic.specs.File.{of_text, file_geo, stop_of_text}
-use Rattle.sop_basic.specs.Making.{Gives, stop_of}
-use Rattle.sop_basic.proofs.MakingLemmas.{gives_none, kept_same}
+use Rattle.sop_basic.specs.Making.{Gives}
+use Rattle.sop_basic.proofs.MakingLemmas.{kept_same}
 
 pub fits_limits : (g : Geo) → Fits g → within_limits g ≡ Ok g
 fits_limits g fits = ap (λ b. if b then Ok g else Err fault.Limit) (fits-true g fits)
-
--- rows that pass no limit are refused for want of memory alone
-pub load_refused : (old new : VaultMap) (g : Geo) (e : VaultEnd) → Fits g → rows_refused g e → IsAsBefore old new → Gives old new (within_limits g) (Err (stop_of e))
-load_refused old new g end.Limit fits refused same = absurd (refused (fits_within fits))
-load_refused old new g end.Memory fits refused same = gives_none old new (within_limits g) same
-load_refused old new g end.Exists fits refused same = absurd refused
-load_refused old new g end.NoAttr fits refused same = absurd refused
-load_refused old new g end.NoPoint fits refused same = absurd refused
 
 pub text_refused : (v : VaultMap) (r : Result Geo Refusal) (f : ObjFault) → IsTold f r → Gives v v (limited (of_text r)) (Err (stop_of_text f))
 text_refused v r (obj.Number line) told = (ap (λ r. limited (of_text r)) told, kept_same v)
@@ -49,3 +41,9 @@ no_file_known loads name r h is = ap (λ o. unwrap_or o Missing) (sym h) ∙ ap 
 -- the name that was read is the one that is said
 pub file_told : (loads : Loads) (name read : List ℕ) (file : LoadedFile) → name ≡ read → file_in loads read ≡ file → limited (file_geo (file_in loads name)) ≡ limited (file_geo file)
 file_told loads name read file same known = ap (λ n. limited (file_geo (file_in loads n))) same ∙ ap (λ f. limited (file_geo f)) known
+
+-- want of memory before the vault is touched
+pub memory_kept : (v : VaultMap) (r : Result ℕ CookStop) (outcome : Outcome) → IsErrAnd r (λ e. e ≡ stop.Memory) → Gives v v outcome r
+memory_kept v r outcome ended =
+    let (e, is, same) = err_from_is_err_and r ended in
+    subst (Gives v v outcome) (sym is) (subst (λ (s : CookStop). Gives v v outcome (Err s)) (sym same) (kept_same v))

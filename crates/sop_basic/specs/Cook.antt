@@ -22,6 +22,12 @@ needs_input type.AttribDelete = true
 needs_input type.Enumerate = true
 needs_input other = false
 
+-- whether a node hands on the geometry of its input as it is
+abbrev pub hands_on : NodeType → Bool
+hands_on type.Null = true
+hands_on type.Switch = true
+hands_on other = false
+
 -- a key is given for the first input
 abbrev pub IsGiven : List (Option ℕ) → Type 0
 IsGiven keys = (key : ℕ) × (slice_get keys 0 ≡ Some (Some key))

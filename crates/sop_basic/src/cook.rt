@@ -1,5 +1,5 @@
 // A basic node, by its type.
-ghost use Rattle.std.specs.Prelude.{◌≡◌, Some, slice_get, IsTrue, IfOk, OnErr, IsSomeAnd};
+ghost use Rattle.std.specs.Prelude.{◌≡◌, Some, slice_get, IsTrue, IfOk, OnOk, OnErr, IsSomeAnd};
 ghost use Rattle.std.specs.Option.{option_and_then};
 ghost use Rattle.sop_model.specs.Geometry.{IsGood};
 ghost use Rattle.sop_outside.specs.Blanks.{words_of};
@@ -11,7 +11,7 @@ ghost use Rattle.sop_basic.specs.Loads.{file_in};
 ghost use Rattle.sop_basic.specs.Making.{Gives};
 ghost use Rattle.sop_basic.specs.Selecting.{everything};
 ghost use Rattle.sop_basic.specs.Basic.{basic_geo, basic_geo_now, has_pattern, has_word, is_basic};
-ghost use Rattle.sop_basic.specs.Cook.{inputs_seen, needs_input, IsGiven, AreLive, AreGoodAt};
+ghost use Rattle.sop_basic.specs.Cook.{inputs_seen, needs_input, hands_on, IsGiven, AreLive, AreGoodAt};
 
 use crate::add::cook_add;
 use crate::attrib_create::cook_attrib_create;
@@ -32,8 +32,8 @@ use std::alloc::Global;
 
 /// Cooks a node of a basic type, with an input for each that it uses, by rising number (of a switch the one that it takes, of every
 /// other node all of its type's), and with the loads of files: a new key of what the node gives, well made where its inputs are, and all
-/// else in the vault stays. `NotYet` where its `group` has a word, else the fault of the node. Want of memory may come at any time. After
-/// an `Err` every key and its pages are as before.
+/// else in the vault stays. A null and a switch add no page. `NotYet` where its `group` has a word, else the fault of the node. Want of
+/// memory may come at any time. After an `Err` every key and its pages are as before.
 pub fn cook_basic<'b>(
     alloc: Global,
     vault: &mut Vault<'b>,
@@ -47,6 +47,7 @@ pub fn cook_basic<'b>(
     requires needed { IsTrue (needs_input node_type) → IsGiven inputs.now }
     requires live { AreLive vault.old inputs.now }
     ensures gives { Gives vault.old vault.new (basic_geo_now (file_in loaded.now) node_type parms.now (inputs_seen vault.old inputs.now)) result }
+    ensures pages { IsTrue (hands_on node_type) → OnOk result (vault.new.pages ≡ vault.old.pages) }
     ensures err { OnErr result (HoldsAsBefore vault.old vault.new) }
     ensures good { AreGoodAt vault.old inputs.now → IfOk result (λ key. IsSomeAnd (at vault.new.geos key) IsGood) }
 {
@@ -69,7 +70,8 @@ fn cook_now<'b>(
     requires values { AreValues (parms_of node_type) parms.now }
     requires needed { IsTrue (needs_input node_type) → IsGiven inputs.now }
     requires live { AreLive vault.old inputs.now }
-    ensures { Gives vault.old vault.new (basic_geo_now (file_in loaded.now) node_type parms.now (inputs_seen vault.old inputs.now)) result }
+    ensures gives { Gives vault.old vault.new (basic_geo_now (file_in loaded.now) node_type parms.now (inputs_seen vault.old inputs.now)) result }
+    ensures pages { IsTrue (hands_on node_type) → OnOk result (vault.new.pages ≡ vault.old.pages) }
 {
     if has_pattern(node_type, parms) {
         return Err(CookStop::Fault(Fault::NotYet));
@@ -90,7 +92,8 @@ fn cook_all<'b>(
     requires values { AreValues (parms_of node_type) parms.now }
     requires needed { IsTrue (needs_input node_type) → IsGiven inputs.now }
     requires live { AreLive vault.old inputs.now }
-    ensures { Gives vault.old vault.new (basic_geo everything (file_in loaded.now) node_type parms.now (inputs_seen vault.old inputs.now)) result }
+    ensures gives { Gives vault.old vault.new (basic_geo everything (file_in loaded.now) node_type parms.now (inputs_seen vault.old inputs.now)) result }
+    ensures pages { IsTrue (hands_on node_type) → OnOk result (vault.new.pages ≡ vault.old.pages) }
 {
     match node_type {
         NodeType::File => cook_file(alloc, vault, parms, loaded),

@@ -1,6 +1,7 @@
 // `file`: the geometry of an OBJ text.
 ghost use Rattle.std.specs.Prelude.{◌≡◌};
-ghost use Rattle.sop_model.specs.Geometry.{IsSound, Fits, AreValuesWithin};
+ghost use Rattle.sop_model.specs.Geometry.{IsGood, Fits, AreValuesWithin};
+ghost use Rattle.geo_text.specs.ObjColumns.{columns_geo};
 ghost use Rattle.geo_text.specs.ObjMeaning.{meaning};
 ghost use Rattle.sop_net.specs.declared.node_type.NodeType.TheVariants as type;
 ghost use Rattle.sop_net.specs.NodeTable.{parms_of};
@@ -11,9 +12,8 @@ ghost use Rattle.sop_basic.specs.Outcomes.{limited, within_limits};
 ghost use Rattle.sop_basic.specs.File.{file_geo, of_text, stop_of_text};
 
 use crate::loaded::{Loaded, LoadedFile};
-use crate::making::stop_of;
-use geo_text::{ObjFault, read_obj};
-use sop_model::{CookStop, Fault, Geo};
+use geo_text::{ObjColumns, ObjFault, take_obj};
+use sop_model::{CookStop, Fault};
 use sop_net::Parms;
 use sop_vault::{GeoKey, Vault};
 use std::alloc::Global;
@@ -37,27 +37,26 @@ pub fn cook_file<'b>(
     }
 }
 
-/// A new key of the geometry of a text of these bytes.
+/// A new key of the geometry of a text of these bytes. It goes from the text into columns and from these into the vault, so that its rows are
+/// never made.
 fn read_bytes<'b>(alloc: Global, vault: &mut Vault<'b>, bytes: &[u8]) -> Result<GeoKey, CookStop>
     ensures { Gives vault.old vault.new (limited (of_text (meaning bytes.now))) result }
 {
-    match read_obj(alloc, bytes) {
-        Ok(geo) => load(vault, &geo),
+    let mut columns = ObjColumns::new(alloc)?;
+    match take_obj(alloc, bytes, &mut columns) {
+        Ok(()) => load(vault, &columns),
         Err(fault) => Err(stop_of_text(fault)),
     }
 }
 
-/// A new key of a geometry of rows that passes no limit.
-fn load<'b>(vault: &mut Vault<'b>, geo: &Geo) -> Result<GeoKey, CookStop>
-    requires sound { IsSound geo.now }
-    requires values { AreValuesWithin geo.now }
-    requires fits { Fits geo.now }
-    ensures { Gives vault.old vault.new (within_limits geo.now) result }
+/// A new key of a geometry in columns that passes no limit.
+fn load<'b>(vault: &mut Vault<'b>, columns: &ObjColumns) -> Result<GeoKey, CookStop>
+    requires good { IsGood (columns_geo columns.now) }
+    requires fits { Fits (columns_geo columns.now) }
+    requires values { AreValuesWithin (columns_geo columns.now) }
+    ensures { Gives vault.old vault.new (within_limits (columns_geo columns.now)) result }
 {
-    match vault.load_rows(geo) {
-        Ok(key) => Ok(key),
-        Err(end) => Err(stop_of(end)),
-    }
+    Ok(vault.load(columns)?)
 }
 
 /// What a text that gives no geometry is at a node.

@@ -1,5 +1,5 @@
 // `grid`: rows and columns of points, and closed primitives between them.
-ghost use Rattle.std.specs.Prelude.{◌≡◌, ◌<◌, ◌≤◌, ◌*◌, ◌-◌, [], Some};
+ghost use Rattle.std.specs.Prelude.{◌≡◌, ◌<◌, ◌≤◌, ◌*◌, ◌-◌, [], Some, Ok};
 ghost use Rattle.sop_model.specs.Geometry.{empty_geo};
 ghost use Rattle.sop_net.specs.declared.node_type.NodeType.TheVariants as type;
 ghost use Rattle.sop_net.specs.NodeTable.{parms_of};
@@ -9,7 +9,6 @@ ghost use Rattle.sop_basic.specs.Making.{Makes, Gives};
 ghost use Rattle.sop_basic.specs.Outcomes.{limited};
 ghost use Rattle.sop_basic.specs.Grid.{across, grid_of, grid_geo};
 ghost use Rattle.sop_basic.specs.Rules.{grid_in, grid_rule, TellsOfGrid, quad_corners, TellsOfQuad};
-ghost use Rattle.std.specs.Prelude.{Ok};
 
 use crate::making::finish;
 use crate::movement::{Movement, make_points};

@@ -24,3 +24,5 @@ mod xform;
 
 pub use cook::cook_basic;
 pub use loaded::{Loaded, LoadedFile};
+pub use making::{finish, stop_of};
+pub use parm_texts::class_in;

@@ -1,8 +1,7 @@
 // What the texts of parameters say.
-ghost use Rattle.std.specs.Prelude.{◌≡◌, ◌<◌, ◌≤◌, ◌^◌, ◌∷◌, [], length, IfSome, IfNone};
+ghost use Rattle.std.specs.Prelude.{◌≡◌, ◌<◌, ◌≤◌, ◌^◌, ◌∷◌, [], length, pos, IfSome, IfNone};
 ghost use Rattle.sop_basic.specs.ParmTexts.{number_in, count_in, vector_in, vectors_in, class_in};
 ghost use Rattle.sop_model.specs.Values.{zero_vector};
-ghost use Rattle.std.specs.Prelude.{pos};
 
 use sop_fixed::{Real, Vec3, read_numeral, read_whole};
 use sop_model::Class;
