@@ -17,7 +17,7 @@ use Rattle.sop_cook.specs.declared.kept.Kept.{Kept}
 use Rattle.sop_cook.specs.declared.serial.Cooking.{Cooking}
 use Rattle.sop_cook.specs.Visit.{Outcome}
 use Rattle.sop_cook.specs.Ends.{IsReady, geo_at, seen}
-use Rattle.sop_cook.specs.Keys.{inputs_seen, keys_in, key_of, IsReadyAt}
+use Rattle.sop_cook.specs.Keys.{inputs_at, keys_in, key_of, IsReadyAt}
 use Rattle.sop_cook.specs.Parts.{IsShareKept}
 use Rattle.sop_cook.specs.Cooking.{nodes_of, keys_of, gives, IsRunning, RunsOn}
 use Rattle.sop_cook.proofs.KeptLemmas.{keys_push, keys_taken, first_live, seen_same, ready_same, kept_put, kept_stays, kept_taken}
@@ -124,7 +124,7 @@ module _ (start : Cooking) (u : VaultMap) (self : Cooking) (v : VaultMap) (input
     stay : (k : ℕ) → 1 ≤ times k (keys_in inputs) → at w.geos k ≡ at v.geos k
     stay k l = behind_stay v w (keys_of self) (option_to_list input ++ keys_of now) (keys_in inputs) so_far.owns passes k l
 
-    pub inputs_stay : inputs_seen w inputs ≡ inputs_seen v inputs
+    pub inputs_stay : inputs_at w inputs ≡ inputs_at v inputs
     inputs_stay = seen_same v w inputs stay
 
     pushed : (k : ℕ) → times k (keys_in (inputs ++ input ∷ []) ++ keys_of now) ≡ times k (keys_in inputs ++ (option_to_list input ++ keys_of now))

@@ -19,7 +19,7 @@ use Rattle.sop_vault.proofs.PassLemmas.{passes_none, passes_then, passes_as, pas
 use Rattle.sop_cook.specs.declared.kept.Kept.{Kept}
 use Rattle.sop_cook.specs.Visit.{Outcome}
 use Rattle.sop_cook.specs.Ends.{geo_at, IsReady}
-use Rattle.sop_cook.specs.Keys.{inputs_seen, keys_in, IsReadyAt}
+use Rattle.sop_cook.specs.Keys.{inputs_at, keys_in, IsReadyAt}
 use Rattle.sop_cook.specs.Parts.{IsKept, AreNone, IsShareKept}
 
 -- KEYS THAT ARE THERE
@@ -82,7 +82,7 @@ module _ (v w : VaultMap) where
   pub at_same : (k : ℕ) → at w.geos k ≡ at v.geos k → geo_at w k ≡ geo_at v k
   at_same k same = ap (λ (o : Option Geo). unwrap_or o empty_geo) same
 
-  pub seen_same : (keys : List (Option ℕ)) → ((k : ℕ) → 1 ≤ times k (keys_in keys) → at w.geos k ≡ at v.geos k) → inputs_seen w keys ≡ inputs_seen v keys
+  pub seen_same : (keys : List (Option ℕ)) → ((k : ℕ) → 1 ≤ times k (keys_in keys) → at w.geos k ≡ at v.geos k) → inputs_at w keys ≡ inputs_at v keys
   seen_same [] same = refl
   seen_same (None ∷ keys) same = ap (λ (gs : List (Option Geo)). None ∷ gs) (seen_same keys same)
   seen_same (Some key ∷ keys) same =

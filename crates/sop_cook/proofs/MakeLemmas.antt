@@ -29,7 +29,7 @@ use Rattle.sop_basic.specs.Basic as table
 use Rattle.sop_basic.specs.Cook as basic
 use Rattle.sop_basic.specs.Cook.{needs_input, IsGiven, AreLive, AreGoodAt}
 use Rattle.sop_cook.specs.Ends.{IsReady, geo_at, seen}
-use Rattle.sop_cook.specs.Keys.{inputs_seen, key_of, IsReadyAt}
+use Rattle.sop_cook.specs.Keys.{inputs_at, key_of, IsReadyAt}
 use Rattle.sop_cook.specs.Made.{maker_of, made, is_built}
 use Rattle.sop_cook.specs.Parts.{AreFilled, TellsMade}
 use Rattle.sop_cook.proofs.MergeCalls.{ready_live}
@@ -100,7 +100,7 @@ module _ (v : VaultMap) where
       by None r = absurd r
       by (Some g) r = refl
 
-  seen_all : (keys : List (Option ℕ)) → All (λ input. IfSome input (IsReadyAt v)) keys → basic.inputs_seen v keys ≡ inputs_seen v keys
+  seen_all : (keys : List (Option ℕ)) → All (λ input. IfSome input (IsReadyAt v)) keys → basic.inputs_seen v keys ≡ inputs_at v keys
   seen_all [] ready = refl
   seen_all (key ∷ keys) ready =
       let P : Option ℕ → Type 0 = λ input. IfSome input (IsReadyAt v) in
@@ -159,14 +159,14 @@ basic_ready u v files t parms inputs (Ok key) (g, is, added) good = by (at v.geo
 -- what it makes is told
 pub basic_tells : (u v : VaultMap) (files : FileMap) (found : Option Node) (t : NodeType) (parms : List (List ℕ)) (keys : List (Option ℕ)) (r : Result ℕ CookStop) → option_map (λ n. n.node_type) found ≡ Some t
     → option_map (λ n. n.parms) found ≡ Some parms → (t ≡ type.Merge → ⊥) → All (λ input. IfSome input (IsReadyAt u)) keys → Gives u v (basic_geo_now files t parms (basic.inputs_seen u keys)) r
-    → IfSome found (λ n. TellsMade (made files n (inputs_seen u keys)) (seen v r))
+    → IfSome found (λ n. TellsMade (made files n (inputs_at u keys)) (seen v r))
 basic_tells u v files None t parms keys r typed texts apart ready gives = tt
 basic_tells u v files (Some n) t parms keys r typed texts apart ready gives =
     let is : n.node_type ≡ t = cc in
     let same : n.parms ≡ parms = cc in
-    let outcome : made files n (inputs_seen u keys) ≡ basic_geo_now files t parms (basic.inputs_seen u keys) =
-    maker_basic n.node_type files n (inputs_seen u keys) (λ merge. apart (sym is ∙ merge))
-    ∙ ap (λ k. basic_geo_now files k n.parms (inputs_seen u keys)) is
-    ∙ ap (λ ps. basic_geo_now files t ps (inputs_seen u keys)) same
+    let outcome : made files n (inputs_at u keys) ≡ basic_geo_now files t parms (basic.inputs_seen u keys) =
+    maker_basic n.node_type files n (inputs_at u keys) (λ merge. apart (sym is ∙ merge))
+    ∙ ap (λ k. basic_geo_now files k n.parms (inputs_at u keys)) is
+    ∙ ap (λ ps. basic_geo_now files t ps (inputs_at u keys)) same
     ∙ ap (basic_geo_now files t parms) (sym (seen_all u keys ready)) in
     subst (λ o. TellsMade o (seen v r)) (sym outcome) (gives_tells u v _ r gives)

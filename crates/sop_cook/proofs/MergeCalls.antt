@@ -21,7 +21,7 @@ use Rattle.sop_vault.specs.Passing.{Passes}
 use Rattle.sop_vault.proofs.PassLemmas.{readable_at, stays_at, passes_none, passes_then}
 use Rattle.sop_cook.specs.Made.{given, merge_geo}
 use Rattle.sop_cook.specs.Ends.{geo_at, IsReady}
-use Rattle.sop_cook.specs.Keys.{inputs_seen, IsReadyAt}
+use Rattle.sop_cook.specs.Keys.{inputs_at, IsReadyAt}
 use Rattle.sop_cook.specs.Parts.{Merged, TellsMade, TellsDone, IsStopOf, IsAppendStop}
 use Rattle.sop_cook.proofs.KeptLemmas.{at_same}
 use Rattle.sop_cook.proofs.MergeSteps.{merged_none, merged_more, merged_light, merged_all, merged_heavy, merged_over, given-push, given-split}
@@ -121,7 +121,7 @@ IsInput u into input = IfSome input (λ key. (key ≢ into) × IsReadyAt u key)
 
 -- so many inputs were put behind the empty geometry
 pub record Appended (u v : VaultMap) (into : ℕ) (inputs : List (Option ℕ)) : Type 0 where
-  pub merged : Merged (given (inputs_seen u inputs)) (geo_at v into)
+  pub merged : Merged (given (inputs_at u inputs)) (geo_at v into)
   pub live : IsLive v.geos into
   pub passes : Passes u (into ∷ []) v (into ∷ [])
 
@@ -137,11 +137,11 @@ appended_none u into is = record { merged = subst (Merged []) (sym (empty (at u.
     live (Some g) e = refl
 
 -- the geometries of inputs are ready
-given_ready : (u : VaultMap) (into : ℕ) (inputs : List (Option ℕ)) → All (IsInput u into) inputs → All IsReady (given (inputs_seen u inputs))
+given_ready : (u : VaultMap) (into : ℕ) (inputs : List (Option ℕ)) → All (IsInput u into) inputs → All IsReady (given (inputs_at u inputs))
 given_ready u into [] all = All-nil IsReady
 given_ready u into (None ∷ inputs) all = given_ready u into inputs (All-tail (IsInput u into) None inputs all)
 given_ready u into (Some key ∷ inputs) all =
-    All-cons IsReady (geo_at u key) (given (inputs_seen u inputs)) (ready_geo u key (All-head (IsInput u into) (Some key) inputs all).1) (given_ready u into inputs (All-tail (IsInput u into) (Some key) inputs all))
+    All-cons IsReady (geo_at u key) (given (inputs_at u inputs)) (ready_geo u key (All-head (IsInput u into) (Some key) inputs all).1) (given_ready u into inputs (All-tail (IsInput u into) (Some key) inputs all))
 
 module _ (u v : VaultMap) (into : ℕ) (done : List (Option ℕ)) (so_far : Appended u v into done) where
   input_same : (input : Option ℕ) → IsInput u into input → IfSome input (λ key. at v.geos key ≡ at u.geos key)
@@ -161,8 +161,8 @@ module _ (u v : VaultMap) (into : ℕ) (done : List (Option ℕ)) (so_far : Appe
       → ((gs : List Geo) → Merged gs (geo_at v into) → Merged (gs ++ option_to_list (option_map (geo_at v) input)) (geo_at w into)) → IsLive w.geos into → Passes v (into ∷ []) w (into ∷ []) → Appended u w into (done ++ input ∷ [])
   appended_more w input is more live passes = record {
     merged =
-        let gs = given (inputs_seen u done) in
-        let all = ap given (map-append (option_map (geo_at u)) done (input ∷ [])) ∙ given-push (inputs_seen u done) (option_map (geo_at u) input) in
+        let gs = given (inputs_at u done) in
+        let all = ap given (map-append (option_map (geo_at u)) done (input ∷ [])) ∙ given-push (inputs_at u done) (option_map (geo_at u) input) in
         subst (λ (xs : List Geo). Merged xs (geo_at w into)) (sym all) (subst (λ (o : Option Geo). Merged (gs ++ option_to_list o) (geo_at w into)) (input_seen input is) (more gs so_far.merged));
     live = live;
     passes = passes_then u v w (into ∷ []) (into ∷ []) (into ∷ []) so_far.passes passes;
@@ -170,11 +170,11 @@ module _ (u v : VaultMap) (into : ℕ) (done : List (Option ℕ)) (so_far : Appe
 
   -- an input that is refused
   pub appended_refused : (input : Option ℕ) (rest : List (Option ℕ)) (end : CookStop) → IsInput u into input → All (IsInput u into) rest
-      → ((gs hs : List Geo) → Merged gs (geo_at v into) → All IsReady hs → TellsMade (merge_geo (gs ++ (option_to_list (option_map (geo_at v) input) ++ hs))) (Err end)) → TellsMade (merge_geo (given (inputs_seen u (done ++ input ∷ rest)))) (Err end)
+      → ((gs hs : List Geo) → Merged gs (geo_at v into) → All IsReady hs → TellsMade (merge_geo (gs ++ (option_to_list (option_map (geo_at v) input) ++ hs))) (Err end)) → TellsMade (merge_geo (given (inputs_at u (done ++ input ∷ rest)))) (Err end)
   appended_refused input rest end is others refused =
-      let gs = given (inputs_seen u done) in
-      let hs = given (inputs_seen u rest) in
-      let all = ap given (map-append (option_map (geo_at u)) done (input ∷ rest)) ∙ given-split (inputs_seen u done) (inputs_seen u rest) (option_map (geo_at u) input) in
+      let gs = given (inputs_at u done) in
+      let hs = given (inputs_at u rest) in
+      let all = ap given (map-append (option_map (geo_at u)) done (input ∷ rest)) ∙ given-split (inputs_at u done) (inputs_at u rest) (option_map (geo_at u) input) in
       subst (λ (xs : List Geo). TellsMade (merge_geo xs) (Err end)) (sym all)
       (subst (λ (o : Option Geo). TellsMade (merge_geo (gs ++ (option_to_list o ++ hs))) (Err end)) (input_seen input is) (refused gs hs so_far.merged (given_ready u into rest others)))
 
@@ -217,7 +217,7 @@ module _ (u v : VaultMap) (key : ℕ) (g : Option Geo) (added : Added u v key g)
   seen_after None r = refl
   seen_after (Some k) r = ap Some (at_same u v k (added.geos.others k (apart k r)))
 
-  pub inputs_same : (inputs : List (Option ℕ)) → All (λ input. IfSome input (IsReadyAt u)) inputs → inputs_seen v inputs ≡ inputs_seen u inputs
+  pub inputs_same : (inputs : List (Option ℕ)) → All (λ input. IfSome input (IsReadyAt u)) inputs → inputs_at v inputs ≡ inputs_at u inputs
   inputs_same [] all = refl
   inputs_same (input ∷ inputs) all =
       let here = seen_after input (all 0 input (omega arith)) in let rest = inputs_same inputs (λ i d l. all (suc i) d (omega arith)) in λ j. here j ∷ rest j

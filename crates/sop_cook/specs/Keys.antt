@@ -6,8 +6,8 @@ use Rattle.sop_vault.specs.Vaults.{VaultMap}
 use Rattle.sop_cook.specs.Ends.{geo_at, IsReady}
 
 -- inputs by their keys, as geometries
-abbrev pub inputs_seen : VaultMap → List (Option ℕ) → List (Option Geo)
-inputs_seen v keys = map (option_map (geo_at v)) keys
+abbrev pub inputs_at : VaultMap → List (Option ℕ) → List (Option Geo)
+inputs_at v keys = map (option_map (geo_at v)) keys
 
 -- the keys that are there
 abbrev pub keys_in : List (Option ℕ) → List ℕ

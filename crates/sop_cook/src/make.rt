@@ -6,7 +6,7 @@ ghost use Rattle.sop_vault.specs.Passing.{Passes, Owns};
 ghost use Rattle.sop_basic.specs.Loads.{file_in};
 ghost use Rattle.sop_cook.specs.Made.{is_built, made};
 ghost use Rattle.sop_cook.specs.Ends.{seen};
-ghost use Rattle.sop_cook.specs.Keys.{inputs_seen, key_of, IsReadyAt};
+ghost use Rattle.sop_cook.specs.Keys.{inputs_at, key_of, IsReadyAt};
 ghost use Rattle.sop_cook.specs.Parts.{AreFilled, TellsMade};
 
 use crate::merge::merge;
@@ -50,7 +50,7 @@ pub fn make(
     requires built { IfSome (node_of net.now.nodes node) (λ n. IsTrue (is_built n.node_type)) }
     requires filled { IfSome (node_of net.now.nodes node) (λ n. AreFilled (sockets_of n) inputs.now) }
     requires ready { All (λ input. IfSome input (IsReadyAt vault.old)) inputs.now }
-    ensures tells { IfSome (node_of net.now.nodes node) (λ n. TellsMade (made (file_in loaded.now) n (inputs_seen vault.old inputs.now)) (seen vault.new result)) }
+    ensures tells { IfSome (node_of net.now.nodes node) (λ n. TellsMade (made (file_in loaded.now) n (inputs_at vault.old inputs.now)) (seen vault.new result)) }
     ensures ready { IfOk result (IsReadyAt vault.new) }
     ensures passes { Passes vault.old [] vault.new (key_of result) }
     ensures owns { Owns vault.new (key_of result) }

@@ -7,7 +7,7 @@ ghost use Rattle.sop_vault.specs.Keyed.{at, IsLive};
 ghost use Rattle.sop_vault.specs.Passing.{Passes, Owns};
 ghost use Rattle.sop_vault.specs.declared.vault_end.VaultEnd.TheVariants.{Limit, Memory};
 ghost use Rattle.sop_cook.specs.Ends.{geo_at, seen, IsReady};
-ghost use Rattle.sop_cook.specs.Keys.{inputs_seen, key_of, IsReadyAt};
+ghost use Rattle.sop_cook.specs.Keys.{inputs_at, key_of, IsReadyAt};
 ghost use Rattle.sop_cook.specs.Parts.{Merged, TellsMade, TellsDone, IsStopOf, IsAppendStop};
 ghost use Rattle.sop_cook.specs.Made.{given, merge_geo};
 
@@ -18,7 +18,7 @@ use sop_vault::{GeoKey, Vault, VaultEnd};
 /// A new key of the merge of the inputs that are wired, in order.
 pub fn merge(inputs: &[Option<GeoKey>], vault: &mut Vault<'_>) -> Result<GeoKey, CookStop>
     requires { All (λ input. IfSome input (IsReadyAt vault.old)) inputs.now }
-    ensures tells { TellsMade (merge_geo (given (inputs_seen vault.old inputs.now))) (seen vault.new result) }
+    ensures tells { TellsMade (merge_geo (given (inputs_at vault.old inputs.now))) (seen vault.new result) }
     ensures ready { IfOk result (IsReadyAt vault.new) }
     ensures passes { Passes vault.old [] vault.new (key_of result) }
     ensures owns { Owns vault.new (key_of result) }
@@ -41,7 +41,7 @@ fn merge_into(
 ) -> Result<(), CookStop>
     requires into { IsSomeAnd (at vault.old.geos into) (λ g. g ≡ empty_geo) }
     requires inputs { All (λ input. IfSome input (λ key. (key ≢ into) × IsReadyAt vault.old key)) inputs.now }
-    ensures tells { TellsDone (merge_geo (given (inputs_seen vault.old inputs.now))) (geo_at vault.new into) result }
+    ensures tells { TellsDone (merge_geo (given (inputs_at vault.old inputs.now))) (geo_at vault.new into) result }
     ensures ready { OnOk result (IsReadyAt vault.new into) }
     ensures passes { Passes vault.old (into ∷ []) vault.new (into ∷ []) }
     ensures owns { Owns vault.new (into ∷ []) }
@@ -72,8 +72,8 @@ fn append_all(
 ) -> Result<(), CookStop>
     requires into { IsSomeAnd (at vault.old.geos into) (λ g. g ≡ empty_geo) }
     requires inputs { All (λ input. IfSome input (λ key. (key ≢ into) × IsReadyAt vault.old key)) inputs.now }
-    ensures ok { OnOk result (Merged (given (inputs_seen vault.old inputs.now)) (geo_at vault.new into)) }
-    ensures err { IfErr result (λ stop. TellsMade (merge_geo (given (inputs_seen vault.old inputs.now))) (Err stop)) }
+    ensures ok { OnOk result (Merged (given (inputs_at vault.old inputs.now)) (geo_at vault.new into)) }
+    ensures err { IfErr result (λ stop. TellsMade (merge_geo (given (inputs_at vault.old inputs.now))) (Err stop)) }
     ensures live { IsLive vault.new.geos into }
     ensures passes { Passes vault.old (into ∷ []) vault.new (into ∷ []) }
 {

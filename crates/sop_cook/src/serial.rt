@@ -13,7 +13,7 @@ ghost use Rattle.sop_cook.specs.Visit.{at_node, ask, ask_all};
 ghost use Rattle.sop_cook.specs.SerialCook.{cook_of};
 ghost use Rattle.sop_cook.specs.Laws.{IsMissing};
 ghost use Rattle.sop_cook.specs.Ends.{HasNamedNode, IsAtLive, Tells, IsReady, geo_at, seen};
-ghost use Rattle.sop_cook.specs.Keys.{inputs_seen, keys_in, key_of, IsReadyAt};
+ghost use Rattle.sop_cook.specs.Keys.{inputs_at, keys_in, key_of, IsReadyAt};
 ghost use Rattle.sop_cook.specs.Parts.{AreFilled, TellsMade, GoesOn, EndsSo};
 ghost use Rattle.sop_cook.specs.Cooking.{nodes_of, keys_of, gives, IsRunning, RunsOn};
 
@@ -166,7 +166,7 @@ impl<'a> Cooking<'a> {
         requires running { IsRunning vault.old self.old }
         requires owns { Owns vault.old (keys_of self.old) }
         ensures on { RunsOn self.old vault.new self.new }
-        ensures ok { IfOk result (λ inputs. IfSome (node_of (nodes_of self.old) node) (λ n. GoesOn (gives self.old) (ask_all node (sockets_of n)) (inputs_seen vault.new inputs.items))) }
+        ensures ok { IfOk result (λ inputs. IfSome (node_of (nodes_of self.old) node) (λ n. GoesOn (gives self.old) (ask_all node (sockets_of n)) (inputs_at vault.new inputs.items))) }
         ensures err { IfErr result (λ end. IfSome (node_of (nodes_of self.old) node) (λ n. EndsSo (gives self.old) (ask_all node (sockets_of n)) end)) }
         ensures filled { IfOk result (λ inputs. IfSome (node_of (nodes_of self.old) node) (λ n. AreFilled (sockets_of n) inputs.items)) }
         ensures ready { IfOk result (λ inputs. All (λ input. IfSome input (IsReadyAt vault.new)) inputs.items) }

@@ -17,8 +17,8 @@ use hscript_text::Script;
 use sop_outside::{Files, Sink, put};
 use std::alloc::Global;
 
-/// Cooks the node that the words name, of the script that they name, and writes its geometry on `out`, as OBJ or as its listing. What the script echoes comes
-/// first on `err`.
+/// Cooks the node that the words name, of the script that they name, and writes its geometry on `out`, as OBJ or as its listing. What the
+/// script echoes comes first on `err`.
 ///
 /// The words are `SCRIPT NODE [-j N] [--form FORM]`, without the program's name. The status is 0 where all was written; 2 where the words are
 /// refused; 3 where the script is missing, longer than 4 MiB or refused at a line, or the node isn't there; 4 where the cook gives a fault; 5

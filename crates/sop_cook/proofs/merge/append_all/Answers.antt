@@ -1,7 +1,7 @@
 use Rattle.std.proofs.Common.{ℕ, List, take, drop, ◌+◌, sym, subst}
 use Rattle.std.specs.Prelude.{Option, Err}
 use Rattle.std.proofs.lemmas.List.Elements.{All-drop}
-use Rattle.sop_cook.specs.Keys.{inputs_seen}
+use Rattle.sop_cook.specs.Keys.{inputs_at}
 use Rattle.sop_cook.specs.Parts.{TellsMade}
 use Rattle.sop_cook.specs.Made.{given, merge_geo}
 use Rattle.sop_cook.proofs.MergeCalls.{IsInput, Appended, appended_none, input_there, input_ready, appended_more, appended_refused, one_more, split_there}
@@ -34,5 +34,5 @@ returns-in-Err-clause-err c =
     let i = c.loop-input.input-index in
     let inputs = c.args.inputs.now in
     let item = c.input-item.result in
-    subst (λ (all : List (Option ℕ)). TellsMade (merge_geo (given (inputs_seen u all))) (Err c.in-Err.stop)) (sym (split_there inputs i item c.loop-input-test.true c.input-item.is))
+    subst (λ (all : List (Option ℕ)). TellsMade (merge_geo (given (inputs_at u all))) (Err c.in-Err.stop)) (sym (split_there inputs i item c.loop-input-test.true c.input-item.is))
     (appended_refused u c.loop-input.vault c.args.into (take i inputs) c.loop-input.invariant item (drop (i + 1) inputs) c.in-Err.stop (input_there u c.args.into inputs i item c.requires.inputs c.loop-input-test.true c.input-item.is) (All-drop (IsInput u c.args.into) (i + 1) inputs c.requires.inputs) c.in-Err.ensures.err)

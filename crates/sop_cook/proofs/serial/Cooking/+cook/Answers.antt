@@ -13,7 +13,7 @@ use Rattle.sop_basic.specs.Loads.{file_in}
 use Rattle.sop_cook.specs.Made.{made}
 use Rattle.sop_cook.specs.Visit.{ask, ask_all}
 use Rattle.sop_cook.specs.Ends.{geo_at, seen}
-use Rattle.sop_cook.specs.Keys.{inputs_seen, keys_in, key_of}
+use Rattle.sop_cook.specs.Keys.{inputs_at, keys_in, key_of}
 use Rattle.sop_cook.specs.Parts.{AreFilled, TellsMade, GoesOn, EndsSo}
 use Rattle.sop_cook.specs.Cooking.{nodes_of, keys_of, gives}
 use Rattle.sop_cook.proofs.CookLemmas.{Asked, visit_made, visit_failed, asked_none, asked_more, asked_failed, asked_all}
@@ -54,7 +54,7 @@ gather-loop-i-init t c =
       few = omega arith;
       filled = subst (All (λ key. IsTrue c.sockets-first.result.are_needed → IsSome key)) (sym none) (All-nil (λ key. IsTrue c.sockets-first.result.are_needed → IsSome key));
       hands = subst (Gathered self u self u) (sym none) (gathered_none self u c.requires.running c.requires.owns);
-      asked = asked_none (gives self) c.args.node c.sockets-first.result.first c.sockets-first.result.are_needed c.sockets-first.result.wires.now (inputs_seen u c.in-Ok.inputs.items) (ap (inputs_seen u) none);
+      asked = asked_none (gives self) c.args.node c.sockets-first.result.first c.sockets-first.result.are_needed c.sockets-first.result.wires.now (inputs_at u c.in-Ok.inputs.items) (ap (inputs_at u) none);
     }
 
 pub gather-ask-requires : goal.gather-ask-requires
@@ -94,7 +94,7 @@ gather-returns-in-Err-ask-clause-err t c =
     let wires = c.sockets-first.result.wires.now in
     let wire = c.index-wires-i.result in
     sockets_known (λ sockets. EndsSo go (ask_all c.args.node sockets) c.in-Err-ask.end) (node_of (nodes_of c.args.self.now) c.args.node) (sockets_from first needed wires) c.sockets-first.ensures.sockets
-    (asked_failed go c.args.node first needed wires c.loop-i.i (inputs_seen c.loop-i.vault c.loop-i.inputs.items) wire wire c.in-Err-ask.end c.loop-i-test.true (sym c.index-wires-i.is) c.loop-i.invariant.asked
+    (asked_failed go c.args.node first needed wires c.loop-i.i (inputs_at c.loop-i.vault c.loop-i.inputs.items) wire wire c.in-Err-ask.end c.loop-i-test.true (sym c.index-wires-i.is) c.loop-i.invariant.asked
     (subst (λ go. EndsSo go (ask c.args.node (first + c.loop-i.i) needed wire) c.in-Err-ask.end) (same_gives c.args.self.now c.loop-i.self on.net on.loaded) c.in-Err-ask.ensures.err))
 
 pub gather-returns-in-Err-ask-clause-passes_err : goal.gather-returns-in-Err-ask-clause-passes_err
@@ -132,10 +132,10 @@ gather-loop-i-preserved t c =
       filled = subst (All (λ key. IsTrue needed → IsSome key)) (sym items) (All-push (λ key. IsTrue needed → IsSome key) inputs input c.loop-i.invariant.filled e.given);
       hands = subst (Gathered self u c.ask.new.self w) (sym items) (gathered_more self u c.loop-i.self v inputs hands c.ask.new.self w e.on input e.ready e.passes e.owns);
       asked =
-          asked_more go c.args.node first needed wires c.loop-i.i (inputs_seen w inputs) (inputs_seen w c.push_reserved.new.self.items) wire wire (option_map (geo_at w) input) c.loop-i-test.true (sym c.index-wires-i.is)
+          asked_more go c.args.node first needed wires c.loop-i.i (inputs_at w inputs) (inputs_at w c.push_reserved.new.self.items) wire wire (option_map (geo_at w) input) c.loop-i-test.true (sym c.index-wires-i.is)
           (subst (λ (gs : List (Option Geo)). Asked go c.args.node first needed wires c.loop-i.i gs) (sym (inputs_stay self u c.loop-i.self v inputs hands c.ask.new.self w e.on input e.ready e.passes e.owns)) c.loop-i.invariant.asked)
           (subst (λ go. GoesOn go (ask c.args.node (first + c.loop-i.i) needed wire) (option_map (geo_at w) input)) (same_gives self c.loop-i.self hands.on.net hands.on.loaded) e.ok)
-          (ap (inputs_seen w) items ∙ map-append (option_map (geo_at w)) inputs (input ∷ []));
+          (ap (inputs_at w) items ∙ map-append (option_map (geo_at w)) inputs (input ∷ []));
     }
 
 pub gather-returns-clause-on : goal.gather-returns-clause-on
@@ -147,7 +147,7 @@ gather-returns-clause-ok t c =
     let first = c.sockets-first.result.first in
     let needed = c.sockets-first.result.are_needed in
     let wires = c.sockets-first.result.wires.now in
-    let inputs = inputs_seen c.loop-i.vault c.loop-i.inputs.items in
+    let inputs = inputs_at c.loop-i.vault c.loop-i.inputs.items in
     sockets_known (λ sockets. GoesOn go (ask_all c.args.node sockets) inputs) (node_of (nodes_of c.args.self.now) c.args.node) (sockets_from first needed wires) c.sockets-first.ensures.sockets
     (asked_all go c.args.node first needed wires c.loop-i.i inputs c.loop-i-test.false c.loop-i.invariant.asked)
 
@@ -246,9 +246,9 @@ visit-returns-in-Ok-clause-tells t c =
     let x = c.args.node in
     let v = c.gather.new.vault in
     let z = c.drop_all.new.vault in
-    let inputs = inputs_seen v c.in-Ok.inputs.items in
+    let inputs = inputs_at v c.in-Ok.inputs.items in
     let same = (made_seen c.make-made.new.vault z c.make-made.result (keys_of c.gather.new.self) (made_stay c.args.self.now c.args.vault.now c.gather.new.self c.gather.new.vault c.in-Ok.inputs.items c.in-Ok.ensures.passes c.in-Ok.ensures.owns c.in-Ok.ensures.on c.make-made.new.vault c.make-made.result c.make-made.ensures.passes c.make-made.ensures.owns z gone)).0 in
-    let told = subst (λ (keys : List (Option ℕ)). IfSome (node_of nodes x) (λ n. TellsMade (made (file_in c.gather.new.self.loaded.now) n (inputs_seen v keys)) (seen c.make-made.new.vault c.make-made.result))) c.as_slice.ensures.value c.make-made.ensures.tells in
+    let told = subst (λ (keys : List (Option ℕ)). IfSome (node_of nodes x) (λ n. TellsMade (made (file_in c.gather.new.self.loaded.now) n (inputs_at v keys)) (seen c.make-made.new.vault c.make-made.result))) c.as_slice.ensures.value c.make-made.ensures.tells in
     let loaded = subst (λ loads. IfSome (node_of nodes x) (λ n. TellsMade (made (file_in loads) n inputs) (seen c.make-made.new.vault c.make-made.result))) c.in-Ok.ensures.on.loaded told in
     visit_made files nodes x c.node_type.result inputs (seen z c.made_at.result) (c.is_network.ensures.within_used x c.requires.live) c.node_type.ensures (sym c.is_built.ensures ∙ c.if-not-is_built.false) c.in-Ok.ensures.ok
     (λ n found. c.made_at.ensures.tells z (made files n inputs) (subst (λ r. TellsMade (made files n inputs) r) (sym same) (subst (λ f. IfSome f (λ n. TellsMade (made files n inputs) (seen c.make-made.new.vault c.make-made.result))) found loaded)))

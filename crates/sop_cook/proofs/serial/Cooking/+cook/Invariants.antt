@@ -1,7 +1,7 @@
 use Rattle.std.proofs.Common.{◌≡◌, ◌+◌, ◌*◌, ◌≤◌, length, vec_len, vec_capacity}
 use Rattle.std.specs.Prelude.{All, IsTrue, IsSome}
 use Rattle.sop_cook.specs.Cooking.{gives}
-use Rattle.sop_cook.specs.Keys.{inputs_seen}
+use Rattle.sop_cook.specs.Keys.{inputs_at}
 use Rattle.sop_cook.proofs.CookLemmas.{Asked}
 use Rattle.sop_cook.proofs.HandLemmas.{Gathered}
 use Rattle.sop_cook.proofs.serial.Cooking.+cook.Given as goal
@@ -25,5 +25,5 @@ invariant-gather-loop-i l = record {
   few : l.i ≤ length l.wires;
   filled : All (λ key. IsTrue l.are_needed → IsSome key) l.inputs.items;
   hands : Gathered l.fn.self l.fn.vault l.self l.vault l.inputs.items;
-  asked : Asked (gives l.fn.self) l.node l.first l.are_needed l.wires l.i (inputs_seen l.vault l.inputs.items);
+  asked : Asked (gives l.fn.self) l.node l.first l.are_needed l.wires l.i (inputs_at l.vault l.inputs.items);
 }
