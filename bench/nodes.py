@@ -168,10 +168,11 @@ def write(obj_lines, node_lines, runs):
     page.put(
         "OBJ beside plain Rust",
         "`bench/nodes.py --write` makes this table. A closed grid of N points and N quads is read and written, and one of fewer\n"
-        "points with a texture coordinate and a normal for each corner, for which a file of 64 MiB has room; the peer, `bench/obj_peer.rs`, keeps flat arrays and prints the same\n"
+        "points with a texture coordinate and a normal for each corner, for which a file of 64 MiB has room; the peer,\n"
+        "`bench/obj_peer.rs`, keeps flat arrays and prints the same\n"
         f"bytes. Times are seconds of the processor, the median of {runs} runs, less that of an empty run; memory is the most that\n"
         "a run held. The bounds that it checks: at most 2 times the peer's time and 2.5 times its memory, and less than 2 GB. The\n"
-        "bounds of time, and that of memory without texture coordinates, aren't met yet.",
+        "bound of time isn't met yet for points and quads alone.",
         obj_lines,
     )
     page.put(
