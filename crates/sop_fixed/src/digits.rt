@@ -57,6 +57,21 @@ pub(crate) fn number_within(start: u128, digits: &[u8], cap: u128) -> u128
     number
 }
 
+/// The number that the digits go on from `start`, if they are digits, where so many are sure to fit 64 bits.
+pub(crate) fn short_number(start: u64, digits: &[u8]) -> Option<u64>
+    requires { (start + 1) * 10 ^ length digits.now ≤ 10 ^ MOST_DIGITS }
+    ensures { result ≡ (if are_digits digits.now then Some (start * 10 ^ length digits.now + number_of digits.now) else None) }
+{
+    let mut number = start;
+    for digit in digits {
+        if !digit.is_ascii_digit() {
+            return None;
+        }
+        number = number * 10 + u64::from(*digit - b'0');
+    }
+    Some(number)
+}
+
 /// The digits of both parts times 10 ^ up, over 10 ^ down, to the nearest, or the cap where it is more.
 pub(crate) fn scaled(whole: &[u8], fraction: &[u8], up: u128, down: u128) -> u128
     requires digits { IsTrue (are_digits (whole.now ++ fraction.now)) }

@@ -1,11 +1,11 @@
 //! Numerals: decimal texts of numbers, read and printed.
-ghost use Rattle.std.specs.Prelude.{◌≡◌, ◌++◌, ◌+◌, ◌^◌, ◌<◌, ◌≤◌, ◌||◌, not, length, min, OnOk, OnErr, is_some, position};
+ghost use Rattle.std.specs.Prelude.{◌≡◌, ◌++◌, ◌+◌, ◌*◌, ◌^◌, ◌<◌, ◌≤◌, ◌||◌, not, length, min, OnOk, OnErr, IfSome, IsTrue, is_some, position};
 ghost use Rattle.std.specs.List.{list_all, before_first, after_first};
 ghost use Rattle.std.specs.Char.{is_ascii_digit};
-ghost use Rattle.sop_fixed.specs.Numbers.{signed, unit_size};
-ghost use Rattle.sop_fixed.specs.Numerals.{has_minus, after_sign, whole_of, fraction_of, is_some_digits, is_point, is_exponent_mark, places_up, places_down, in_range, value_of, decimal_of, sign_text, six_digits, without_last_zeros, fraction_text};
+ghost use Rattle.sop_fixed.specs.Numbers.{signed, unit_size, nearest};
+ghost use Rattle.sop_fixed.specs.Numerals.{has_minus, after_sign, whole_of, fraction_of, is_some_digits, is_point, is_exponent_mark, places_up, places_down, in_range, value_of, decimal_of, digits_of, number_of, sign_text, six_digits, without_last_zeros, fraction_text};
 
-use crate::digits::{are_digits, number_within, scaled};
+use crate::digits::{are_digits, number_within, scaled, short_number};
 use crate::fault::NumeralFault;
 use crate::real::{Real, UNIT};
 use itoa::{Buffer, write_digits};
@@ -22,6 +22,9 @@ pub fn read_numeral(text: &[u8]) -> Result<Real, NumeralFault>
     ensures { result ≡ value_of text.now }
 {
     let (negative, unsigned) = split_sign(text);
+    if let Some(size) = short_size(unsigned) {
+        return real_within(negative, u128::from(size));
+    }
     let (mantissa, exponent, is_marked) = split_exponent(unsigned);
     let (whole, fraction) = split_point(mantissa);
     if !is_mantissa(whole, fraction) || !is_exponent(is_marked, exponent) {
@@ -32,6 +35,20 @@ pub fn read_numeral(text: &[u8]) -> Result<Real, NumeralFault>
         negative,
         scaled(whole, fraction, 6 + up, fraction.len() as u128 + down),
     )
+}
+
+/// The size in millionths of a plain decimal that is short enough to be exact in 64 bits, which most numerals are: at
+/// most 12 digits and, behind a point, at most 6 more, with neither sign nor exponent. None says nothing of the text.
+fn short_size(text: &[u8]) -> Option<u64>
+    ensures digits { IfSome result (λ size. IsTrue (is_some_digits (digits_of text.now))) }
+    ensures size { IfSome result (λ size. size ≡ nearest (number_of (digits_of text.now) * 10 ^ 6) (10 ^ length (fraction_of text.now))) }
+{
+    let (whole, fraction) = split_point(text);
+    if whole.len() > 12 || fraction.len() > 6 || whole.is_empty() && fraction.is_empty() {
+        return None;
+    }
+    let number = short_number(short_number(0, whole)?, fraction)?;
+    Some(number * 10_u64.pow(6 - fraction.len() as u32))
 }
 
 /// Whether the text begins with a minus, and what follows its sign.
