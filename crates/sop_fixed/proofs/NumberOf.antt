@@ -1,5 +1,5 @@
 -- The number that digits say, and how many digits bound it.
-use Rattle.std.proofs.Common.{◌≡◌, ℕ, ◌+◌, ◌-◌, ◌*◌, ◌^◌, ◌≤◌, ◌<◌, List, [], ◌∷◌, ◌++◌, length, length-append, min, ap, ◌∙◌, arith, Bool, true, ◌&&◌}
+use Rattle.std.proofs.Common.{◌≡◌, ℕ, ◌+◌, ◌-◌, ◌*◌, ◌^◌, ◌≤◌, ◌<◌, List, [], ◌∷◌, ◌++◌, length, length-append, ap, ◌∙◌, arith, Bool, true, ◌&&◌}
 use Rattle.std.proofs.lemmas.Nat.{pow-add}
 use Rattle.std.proofs.lemmas.Grind.{common_steps}
 use Rattle.std.proofs.Math.Nat.{pow-succ', mul-le-mul_right, pow-le-pow_right}
@@ -35,7 +35,3 @@ few_below digits most all few =
     let below : number_of digits < 10 ^ length digits = number_below digits all in
     let more : 10 ^ length digits ≤ 10 ^ most = pow-le-pow_right (omega arith) few in
     omega (arith, below, more)
-
--- a cap that so many digits don't reach changes nothing
-pub few_uncapped : (digits : List ℕ) (most cap : ℕ) → are_digits digits ≡ true → length digits ≤ most → 10 ^ most ≤ cap → min (number_of digits) cap ≡ number_of digits
-few_uncapped digits most cap all few room = omega (arith, few_below digits most all few, room)

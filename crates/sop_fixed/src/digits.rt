@@ -32,16 +32,10 @@ pub fn read_number(text: &[u8], most: usize) -> Option<u64>
     ensures value { result ≡ number_in most text.now }
     ensures below { IfSome result (λ n. n < 10 ^ most) }
 {
-    if !are_few_digits(text, most) {
+    if text.is_empty() || text.len() > most {
         return None;
     }
-    Some(read_digits(text, u64::MAX))
-}
-
-fn are_few_digits(text: &[u8], most: usize) -> bool
-    ensures { result ≡ (is_some_digits text.now && nat_le (length text.now) most) }
-{
-    !text.is_empty() && are_digits(text) && text.len() <= most
+    short_number(0, text)
 }
 
 /// The number that the digits go on from `start`, or the cap where it is more.
