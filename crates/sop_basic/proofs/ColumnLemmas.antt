@@ -1,6 +1,6 @@
 -- An attribute made sure of, and the values under it: what was counted, what passes a limit.
-use Rattle.std.proofs.Common.{◌≡◌, ℕ, suc, ◌≤◌, Bool, true, false, not, List, [], ◌∷◌, length, map, replicate, refl, sym, ap, ◌∙◌, subst, arith}
-use Rattle.std.specs.Prelude.{Option, Some, None, Ok, Err, pos, codes, slice_index_or, if◌then◌else◌}
+use Rattle.std.proofs.Common.{◌≡◌, ℕ, zero, suc, ◌≤◌, Bool, true, false, not, List, [], ◌∷◌, length, map, refl, sym, ap, ◌∙◌, subst, arith}
+use Rattle.std.specs.Prelude.{Option, Some, None, Ok, Err, pos, codes, slice_index_or, slice_set, if◌then◌else◌}
 use Rattle.std.specs.Str.{bytes_eq}
 use Rattle.std.proofs.lemmas.Bool.{false≢true}
 use Rattle.std.proofs.lemmas.List.{length-map}
@@ -72,17 +72,34 @@ with_head_count g class h = by (head_named g class h.name)
     by None = count_of-shape g (attr_added g class h) (HasShapeOf-attr_added g class h) class
     by (Some i) = either (is_kind h.kind (kind_at g class i)) i
 
--- ---- values under an attribute, where all elements are selected
-rows_counted : (head i : ℕ) (rows : List Row) (cell : Row → Value) → rows_held head rows (counted_from i (replicate (length rows) true) (map cell rows)) ≡ rows_filled (λ k. value.Int (pos k)) head i rows
-rows_counted head i [] cell = refl
-rows_counted head i (row ∷ rows) cell = ap (λ rs. with_value head (value.Int (pos i)) row ∷ rs) (rows_counted head (suc i) rows cell)
+-- ---- values under an attribute where elements are selected
+abbrev pub cell_at : ℕ → Row → Value
+cell_at head row = slice_index_or row.values head (value.Int (pos 0))
 
-pub counted_is : (g : Geo) (class : Class) (name : List ℕ) (head n : ℕ) → head_named g class name ≡ Some head → n ≡ count_of g class
-    → filled (λ k. value.Int (pos k)) class head g ≡ with_column g class name (counted_from 0 (replicate n true))
-counted_is g class name head n named many =
-    sym (ap (with_column_at g class (counted_from 0 (replicate n true))) named
-    ∙ ap (λ n. column_held g class head (counted_from 0 (replicate n true) (column_of g class head))) many
-    ∙ ap (with_rows g class) (rows_counted head 0 (rows_of g class) (λ row. slice_index_or row.values head (value.Int (pos 0)))))
+set_own : (values : List Value) (i : ℕ) (d : Value) → slice_set values i (slice_index_or values i d) ≡ values
+set_own [] i d = refl
+set_own (v ∷ values) zero d = refl
+set_own (v ∷ values) (suc i) d = ap (λ vs. v ∷ vs) (set_own values i d)
+
+-- a row with its own value is as before
+pub row_own : (head : ℕ) (row : Row) → with_value head (cell_at head row) row ≡ row
+row_own head row = ap (λ vs. record row { values = vs }) (set_own row.values head (value.Int (pos 0)))
+
+pub rows_own : (head : ℕ) (rows : List Row) → rows_held head rows (map (cell_at head) rows) ≡ rows
+rows_own head [] = refl
+rows_own head (row ∷ rows) = ap (λ r. r ∷ rows_held head rows (map (cell_at head) rows)) (row_own head row) ∙ ap (λ rs. row ∷ rs) (rows_own head rows)
+
+rows_counted : (head k : ℕ) (flags : List Bool) (rows : List Row) → rows_held head rows (counted_from k flags (map (cell_at head) rows)) ≡ rows_filled (λ k. value.Int (pos k)) head k flags rows
+rows_counted head k [] rows = rows_own head rows
+rows_counted head k (on ∷ flags) [] = refl
+rows_counted head k (true ∷ flags) (row ∷ rows) = ap (λ rs. with_value head (value.Int (pos k)) row ∷ rs) (rows_counted head (suc k) flags rows)
+rows_counted head k (false ∷ flags) (row ∷ rows) =
+    ap (λ r. r ∷ rows_held head rows (counted_from k flags (map (cell_at head) rows))) (row_own head row) ∙ ap (λ rs. row ∷ rs) (rows_counted head k flags rows)
+
+pub counted_is : (g : Geo) (class : Class) (name : List ℕ) (head : ℕ) (flags : List Bool) → head_named g class name ≡ Some head
+    → filled (λ k. value.Int (pos k)) class head flags g ≡ with_column g class name (counted_from 0 flags)
+counted_is g class name head flags named =
+    sym (ap (with_column_at g class (counted_from 0 flags)) named ∙ ap (with_rows g class) (rows_counted head 0 flags (rows_of g class)))
 
 -- ---- names
 pub no_position : (class : Class) (name : List ℕ) → not (is_position class name) ≡ true → IsNoPosition class name

@@ -25,13 +25,15 @@ use Rattle.sop_rows.proofs.FirstLemmas.{same_bytes}
 use Rattle.sop_net.specs.Network.{parm_at}
 use Rattle.sop_vault.specs.Vaults.{VaultMap}
 use Rattle.sop_basic.specs.ParmTexts.{class_in}
-use Rattle.sop_basic.specs.Outcomes.{limited}
+use Rattle.sop_basic.specs.Outcomes.{limited, then_with}
 use Rattle.sop_basic.specs.Making.{Gives}
-use Rattle.sop_basic.specs.Selecting.{everything}
+use Rattle.sop_basic.specs.Selecting.{by_pattern, StopsWith}
 use Rattle.sop_basic.specs.Heads.{is_position, is_kind, with_head, with_head_at, with_column_at, with_column}
 use Rattle.sop_basic.specs.Fillings.{rows_filled, filled, ReadsValue}
 use Rattle.sop_basic.specs.AttribCreate.{kind_in, value_said, value_in, may_have, value_told, set_where, set_under, created, attrib_create_geo}
 use Rattle.sop_basic.proofs.MakingLemmas.{kept_same}
+use Rattle.sop_basic.proofs.SelectLemmas.{stops_at_once}
+use Rattle.sop_basic.proofs.ColumnLemmas.{cell_at, row_own, rows_own}
 
 -- ---- the value that is told
 pub told_by : (parms : List (List ℕ)) (class : Class) (name : List ℕ) (wanted : Kind) (text : List ℕ) → class ≡ class_in (parm_at parms 0) → name ≡ parm_at parms 1 → wanted ≡ kind_in (parm_at parms 2) → text ≡ parm_at parms 3
@@ -118,29 +120,35 @@ told_within parms v few is =
     in_within wanted (parm_at parms 3) v few says
 
 -- ---- the node
-pub create_refused : (parms : List (List ℕ)) (vault : VaultMap) (s : CookStop) → ReadsValue (value_told parms) (Err s) → (g : Geo) → Gives vault vault (limited (attrib_create_geo everything parms g)) (Err s)
+pub create_refused : (parms : List (List ℕ)) (vault : VaultMap) (s : CookStop) → ReadsValue (value_told parms) (Err s) → (g : Geo) → Gives vault vault (limited (attrib_create_geo parms g)) (Err s)
 create_refused parms vault (stop.Fault f) (none, bad) g =
-    (ap (λ o. limited (created everything (class_in (parm_at parms 0)) (parm_at parms 1) (parm_at parms 4) g o)) none ∙ ap Err (sym bad), kept_same vault)
+    (ap (λ o. limited (created (class_in (parm_at parms 0)) (parm_at parms 1) (parm_at parms 4) g o)) none ∙ ap Err (sym bad), kept_same vault)
 create_refused parms vault stop.Memory t g = kept_same vault
 
-pub create_is : (parms : List (List ℕ)) (class : Class) (name : List ℕ) (v : Value) → class ≡ class_in (parm_at parms 0) → name ≡ parm_at parms 1 → value_told parms ≡ Some v
-    → (g : Geo) → Ok (set_under class name v g (replicate (count_of g class) true)) ≡ attrib_create_geo everything parms g
-create_is parms class name v class_is name_is is g =
-    ap (λ c. Ok (set_under c name v g (replicate (count_of g c) true))) class_is
-    ∙ ap (λ n. Ok (set_under (class_in (parm_at parms 0)) n v g (replicate (count_of g (class_in (parm_at parms 0))) true))) name_is
-    ∙ sym (ap (created everything (class_in (parm_at parms 0)) (parm_at parms 1) (parm_at parms 4) g) is)
+-- what is told where the value is
+module _ (parms : List (List ℕ)) (class : Class) (name group : List ℕ) (v : Value) (class_is : class ≡ class_in (parm_at parms 0)) (name_is : name ≡ parm_at parms 1) (group_is : group ≡ parm_at parms 4) (is : value_told parms ≡ Some v) where
+  told : (g : Geo) → created class name group g (Some v) ≡ attrib_create_geo parms g
+  told g =
+      ap (λ c. created c name group g (Some v)) class_is
+      ∙ ap (λ n. created (class_in (parm_at parms 0)) n group g (Some v)) name_is
+      ∙ ap (λ t. created (class_in (parm_at parms 0)) (parm_at parms 1) t g (Some v)) group_is
+      ∙ sym (ap (created (class_in (parm_at parms 0)) (parm_at parms 1) (parm_at parms 4) g) is)
 
--- ---- values under an attribute, where all elements are selected
-rows_set : (v : Value) (head i : ℕ) (rows : List Row) (cell : Row → Value) → rows_held head rows (set_where v (replicate (length rows) true) (map cell rows)) ≡ rows_filled (λ k. v) head i rows
-rows_set v head i [] cell = refl
-rows_set v head i (row ∷ rows) cell = ap (λ rs. with_value head v row ∷ rs) (rows_set v head (suc i) rows cell)
+  pub create_is : (g : Geo) (flags : List Bool) → by_pattern g class group ≡ Ok flags → Ok (set_under class name v g flags) ≡ attrib_create_geo parms g
+  create_is g flags selected = sym (ap (λ r. then_with r (λ flags. Ok (set_under class name v g flags))) selected) ∙ told g
 
-pub set_is : (v : Value) (g : Geo) (class : Class) (name : List ℕ) (head n : ℕ) → head_named g class name ≡ Some head → n ≡ count_of g class
-    → filled (λ k. v) class head g ≡ with_column g class name (set_where v (replicate n true))
-set_is v g class name head n named many =
-    sym (ap (with_column_at g class (set_where v (replicate n true))) named
-    ∙ ap (λ n. column_held g class head (set_where v (replicate n true) (column_of g class head))) many
-    ∙ ap (with_rows g class) (rows_set v head 0 (rows_of g class) (λ row. slice_index_or row.values head (value.Int (pos 0)))))
+  pub create_stops : (vault : VaultMap) (g : Geo) (s : CookStop) → StopsWith (by_pattern g class group) s → Gives vault vault (limited (attrib_create_geo parms g)) (Err s)
+  create_stops vault g s stops = subst (λ o. Gives vault vault (limited o) (Err s)) (told g) (stops_at_once vault (by_pattern g class group) (λ flags. Ok (set_under class name v g flags)) s stops)
+-- ---- values under an attribute where elements are selected
+rows_set : (v : Value) (head k : ℕ) (flags : List Bool) (rows : List Row) → rows_held head rows (set_where v flags (map (cell_at head) rows)) ≡ rows_filled (λ k. v) head k flags rows
+rows_set v head k [] rows = rows_own head rows
+rows_set v head k (on ∷ flags) [] = refl
+rows_set v head k (true ∷ flags) (row ∷ rows) = ap (λ rs. with_value head v row ∷ rs) (rows_set v head (suc k) flags rows)
+rows_set v head k (false ∷ flags) (row ∷ rows) =
+    ap (λ r. r ∷ rows_held head rows (set_where v flags (map (cell_at head) rows))) (row_own head row) ∙ ap (λ rs. row ∷ rs) (rows_set v head k flags rows)
+
+pub set_is : (v : Value) (g : Geo) (class : Class) (name : List ℕ) (head : ℕ) (flags : List Bool) → head_named g class name ≡ Some head → filled (λ k. v) class head flags g ≡ with_column g class name (set_where v flags)
+set_is v g class name head flags named = sym (ap (with_column_at g class (set_where v flags)) named ∙ ap (with_rows g class) (rows_set v head 0 flags (rows_of g class)))
 
 -- ---- the points' `P`
 first_named : (heads : List Head) → BeginsWithPosition heads → (position (λ h. bytes_eq h.name (codes "P")) heads ≡ Some 0) × (option_map (λ h. h.kind) (slice_get heads 0) ≡ Some kind.Vector)

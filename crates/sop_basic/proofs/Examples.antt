@@ -13,8 +13,7 @@ use Rattle.sop_basic.specs.declared.loaded.LoadedFile.{LoadedFile}
 use Rattle.sop_basic.specs.declared.loaded.LoadedFile.TheVariants.{Bytes, Missing, TooLong}
 use Rattle.sop_basic.specs.Loads.{FileMap}
 use Rattle.sop_basic.specs.Outcomes.{Outcome}
-use Rattle.sop_basic.specs.Selecting.{by_pattern}
-use Rattle.sop_basic.specs.Basic.{basic_geo, basic_geo_now}
+use Rattle.sop_basic.specs.Basic.{basic_geo}
 
 abbrev no_files : FileMap
 no_files name = Missing
@@ -31,7 +30,7 @@ inputs_of (Ok g ∷ others) = Some g ∷ inputs_of others
 inputs_of (Err f ∷ others) = None ∷ inputs_of others
 
 abbrev node : NodeType → List (List ℕ × List ℕ) → List Outcome → Outcome
-node node_type pairs inputs = basic_geo by_pattern no_files node_type (with node_type pairs) (inputs_of inputs)
+node node_type pairs inputs = basic_geo no_files node_type (with node_type pairs) (inputs_of inputs)
 
 abbrev told : Outcome → List ℕ
 told (Ok g) = list_text g
@@ -110,7 +109,7 @@ null_hands_on = refl
 switch_takes_one : told (node type.Switch ((codes "input", codes "1") ∷ []) (three ∷ [])) ≡ told three
 switch_takes_one = refl
 
-switch_needs_its_own : told (basic_geo by_pattern no_files type.Switch (with type.Switch ((codes "input", codes "2") ∷ [])) (None ∷ [])) ≡ codes "NoInput 2"
+switch_needs_its_own : told (basic_geo no_files type.Switch (with type.Switch ((codes "input", codes "2") ∷ [])) (None ∷ [])) ≡ codes "NoInput 2"
 unfolding digits
 switch_needs_its_own = refl
 
@@ -257,7 +256,7 @@ needs_an_input = refl
 -- FILE
 
 abbrev file_of : LoadedFile → List ℕ
-file_of file = told (basic_geo by_pattern (λ name. file) type.File (default_parms type.File) [])
+file_of file = told (basic_geo (λ name. file) type.File (default_parms type.File) [])
 
 no_file : file_of Missing ≡ codes "NoFile"
 no_file = refl
@@ -273,13 +272,10 @@ file_without_a_point : file_of (Bytes (codes "v 0 0 0\nf 0 1 2\n")) ≡ codes "I
 unfolding digits
 file_without_a_point = refl
 
--- UNTIL PATTERNS ARE READ
+-- A PATTERN OF BLANKS SELECTS ALL, AND A BAD PARAMETER GOES BEFORE A BAD PATTERN
 
-abbrev now : NodeType → List (List ℕ × List ℕ) → List Outcome → List ℕ
-now node_type pairs inputs = told (basic_geo_now no_files node_type (with node_type pairs) (inputs_of inputs))
-
-not_yet : now type.Enumerate ((codes "name", codes "P") ∷ (codes "group", codes " 1 ") ∷ []) (three ∷ []) ≡ codes "NotYet"
-not_yet = refl
-
-blanks_alone : now type.Enumerate ((codes "name", codes "P") ∷ (codes "group", codes "  ") ∷ []) (three ∷ []) ≡ codes "BadParm"
+blanks_alone : told (node type.Enumerate ((codes "name", codes "n") ∷ (codes "group", codes "  ") ∷ []) (three ∷ [])) ≡ told (node type.Enumerate ((codes "name", codes "n") ∷ []) (three ∷ []))
 blanks_alone = refl
+
+bad_name_before : told (node type.Enumerate ((codes "name", codes "P") ∷ (codes "group", codes "x") ∷ []) (three ∷ [])) ≡ codes "BadParm"
+bad_name_before = refl

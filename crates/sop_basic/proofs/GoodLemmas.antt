@@ -39,7 +39,7 @@ use Rattle.sop_basic.specs.declared.loaded.LoadedFile.TheVariants.{Bytes, Missin
 use Rattle.sop_basic.specs.Loads.{FileMap}
 use Rattle.sop_basic.specs.ParmTexts.{count_in, number_in, vector_in, vectors_in, class_in}
 use Rattle.sop_basic.specs.Outcomes.{Outcome, then_with, limited, all_in_range}
-use Rattle.sop_basic.specs.Selecting.{Selecting, everything}
+use Rattle.sop_basic.specs.Selecting.{by_pattern}
 use Rattle.sop_basic.specs.Shapes.{shape}
 use Rattle.sop_basic.specs.File.{of_text, file_geo}
 use Rattle.sop_basic.specs.Add.{with_points, with_prim, added, add_geo}
@@ -51,7 +51,7 @@ use Rattle.sop_basic.specs.Heads.{with_head, with_column}
 use Rattle.sop_basic.specs.AttribCreate.{value_told, set_where, set_under, created, attrib_create_geo}
 use Rattle.sop_basic.specs.AttribDelete.{staying, heads_left, values_left, attrs_left, attrib_delete_geo}
 use Rattle.sop_basic.specs.Enumerate.{may_count, counted_from, counted_under, enumerate_geo}
-use Rattle.sop_basic.specs.Basic.{input_at, needing, maker_of, made_by, basic_geo, has_pattern, basic_geo_now}
+use Rattle.sop_basic.specs.Basic.{input_at, needing, maker_of, made_by, basic_geo}
 use Rattle.sop_basic.specs.Making.{Gives}
 use Rattle.sop_basic.specs.Cook.{inputs_seen, AreGoodAt}
 use Rattle.sop_basic.proofs.NumberLemmas.{any_cells}
@@ -117,10 +117,10 @@ add_has parms input have =
     let poly = parm_at parms 1 in
     has_ok (added g places poly) (poly_has (bytes_eq poly (codes "open")) (bytes_eq poly (codes "closed")) (with_points g places) (length g.points) places have)
 
-xform_has : (select : Selecting) (parms : List (List ℕ)) (g : Geo) → HaveVertices g → Has (xform_geo select parms g)
-xform_has select parms g have =
+xform_has : (parms : List (List ℕ)) (g : Geo) → HaveVertices g → Has (xform_geo parms g)
+xform_has parms g have =
     let go = λ (flags : List Bool). then_with (all_in_range (moved_where (vector_in (parm_at parms 0)) (vector_in (parm_at parms 1)) flags (places_of g))) (λ places. Ok (placed g places)) in
-    has_then (select g Point (parm_at parms 2)) go (λ flags is.
+    has_then (by_pattern g Point (parm_at parms 2)) go (λ flags is.
     has_then (all_in_range (moved_where (vector_in (parm_at parms 0)) (vector_in (parm_at parms 1)) flags (places_of g))) (λ places. Ok (placed g places)) (λ places done.
     has_ok (placed g places) (rows_kept g Point (rows_held 0 (rows_of g Point) (map value.Vector places)) have)))
 
@@ -129,13 +129,13 @@ under_has class name kind change g have =
     let head : Head = record { name = name; kind = kind } in
     column_kept (with_head g class head) class name change (head_kept g class head have)
 
-created_has : (select : Selecting) (class : Class) (name group : List ℕ) (g : Geo) (o : Option Value) → HaveVertices g → Has (created select class name group g o)
-created_has select class name group g None have = has_err BadParm
-created_has select class name group g (Some v) have =
-    has_then (select g class group) (λ flags. Ok (set_under class name v g flags)) (λ flags is. has_ok (set_under class name v g flags) (under_has class name (kind_of v) (set_where v flags) g have))
+created_has : (class : Class) (name group : List ℕ) (g : Geo) (o : Option Value) → HaveVertices g → Has (created class name group g o)
+created_has class name group g None have = has_err BadParm
+created_has class name group g (Some v) have =
+    has_then (by_pattern g class group) (λ flags. Ok (set_under class name v g flags)) (λ flags is. has_ok (set_under class name v g flags) (under_has class name (kind_of v) (set_where v flags) g have))
 
-create_has : (select : Selecting) (parms : List (List ℕ)) (g : Geo) → HaveVertices g → Has (attrib_create_geo select parms g)
-create_has select parms g have = created_has select (class_in (parm_at parms 0)) (parm_at parms 1) (parm_at parms 4) g (value_told parms) have
+create_has : (parms : List (List ℕ)) (g : Geo) → HaveVertices g → Has (attrib_create_geo parms g)
+create_has parms g have = created_has (class_in (parm_at parms 0)) (parm_at parms 1) (parm_at parms 4) g (value_told parms) have
 
 delete_has : (parms : List (List ℕ)) (g : Geo) → HaveVertices g → Has (attrib_delete_geo parms g)
 delete_has parms g have =
@@ -143,13 +143,13 @@ delete_has parms g have =
     let stay = staying g class (words_of (parm_at parms 1)) in
     has_ok (attrs_left g class stay) (class_kept g class (heads_left stay (heads_of g class)) (map (values_left stay) (rows_of g class)) have)
 
-enumerate_has : (select : Selecting) (parms : List (List ℕ)) (g : Geo) → HaveVertices g → Has (enumerate_geo select parms g)
-enumerate_has select parms g have =
+enumerate_has : (parms : List (List ℕ)) (g : Geo) → HaveVertices g → Has (enumerate_geo parms g)
+enumerate_has parms g have =
     let class = class_in (parm_at parms 0) in
     let name = parm_at parms 1 in
     let go = λ (flags : List Bool). Ok (counted_under class name g flags) in
-    has_if (may_count class name) (then_with (select g class (parm_at parms 2)) go) (Err BadParm)
-    (has_then (select g class (parm_at parms 2)) go (λ flags is. has_ok (counted_under class name g flags) (under_has class name kind.Int (counted_from 0 flags) g have)))
+    has_if (may_count class name) (then_with (by_pattern g class (parm_at parms 2)) go) (Err BadParm)
+    (has_then (by_pattern g class (parm_at parms 2)) go (λ flags is. has_ok (counted_under class name g flags) (under_has class name kind.Int (counted_from 0 flags) g have)))
     (has_err BadParm)
 
 -- ---- every type
@@ -173,11 +173,11 @@ default_has : (o : Option Geo) → ((g : Geo) → o ≡ Some g → HaveVertices 
 default_has None has = All-nil HasVertex
 default_has (Some g) has = has g refl
 
-module _ (select : Selecting) (files : FileMap) (parms : List (List ℕ)) (inputs : List (Option Geo)) (have : AreHaving inputs) where
+module _ (files : FileMap) (parms : List (List ℕ)) (inputs : List (Option Geo)) (have : AreHaving inputs) where
   first_has : (number : ℕ) (go : Geo → Outcome) → ((g : Geo) → HaveVertices g → Has (go g)) → Has (needing number (input_at inputs 0) go)
   first_has number go has = needing_has number (input_at inputs 0) go (λ g is. has g (input_has inputs g have is))
 
-  made_has : (t : NodeType) → AreValues (parms_of t) parms → Has (made_by (maker_of t) select files parms inputs)
+  made_has : (t : NodeType) → AreValues (parms_of t) parms → Has (made_by (maker_of t) files parms inputs)
   made_has type.File are = file_has (files (parm_at parms 0))
   made_has type.Add are = add_has parms (input_at inputs 0) (default_has (input_at inputs 0) (λ g is. input_has inputs g have is))
   made_has type.Line are = line_has parms are
@@ -185,10 +185,10 @@ module _ (select : Selecting) (files : FileMap) (parms : List (List ℕ)) (input
   made_has type.Box are = box_has parms
   made_has type.Null are = first_has 0 Ok has_ok
   made_has type.Switch are = first_has (count_in (parm_at parms 0)) Ok has_ok
-  made_has type.Xform are = first_has 0 (xform_geo select parms) (xform_has select parms)
-  made_has type.AttribCreate are = first_has 0 (attrib_create_geo select parms) (create_has select parms)
+  made_has type.Xform are = first_has 0 (xform_geo parms) (xform_has parms)
+  made_has type.AttribCreate are = first_has 0 (attrib_create_geo parms) (create_has parms)
   made_has type.AttribDelete are = first_has 0 (attrib_delete_geo parms) (delete_has parms)
-  made_has type.Enumerate are = first_has 0 (enumerate_geo select parms) (enumerate_has select parms)
+  made_has type.Enumerate are = first_has 0 (enumerate_geo parms) (enumerate_has parms)
   made_has type.Merge are = has_err NotYet
   made_has type.Blast are = has_err NotYet
   made_has type.GroupCreate are = has_err NotYet
@@ -202,11 +202,8 @@ module _ (select : Selecting) (files : FileMap) (parms : List (List ℕ)) (input
   made_has type.CompileBegin are = has_err NotYet
   made_has type.CompileEnd are = has_err NotYet
 
-  pub basic_has : (t : NodeType) → AreValues (parms_of t) parms → Has (basic_geo select files t parms inputs)
-  basic_has t are = has_limited (made_by (maker_of t) select files parms inputs) (made_has t are)
-
-pub now_has : (files : FileMap) (t : NodeType) (parms : List (List ℕ)) (inputs : List (Option Geo)) → AreHaving inputs → AreValues (parms_of t) parms → Has (basic_geo_now files t parms inputs)
-now_has files t parms inputs have are = has_if (has_pattern t parms) (Err NotYet) (basic_geo everything files t parms inputs) (has_err NotYet) (basic_has everything files parms inputs have t are)
+  pub basic_has : (t : NodeType) → AreValues (parms_of t) parms → Has (basic_geo files t parms inputs)
+  basic_has t are = has_limited (made_by (maker_of t) files parms inputs) (made_has t are)
 
 -- ---- over a vault
 seen_have : (v : VaultMap) (keys : List (Option ℕ)) → AreGoodAt v keys → AreHaving (inputs_seen v keys)
@@ -225,10 +222,10 @@ seen_have v (input ∷ keys) good =
     one (Some key) good = there (at v.geos key) good
 
 pub good_made : (old new : VaultMap) (files : FileMap) (t : NodeType) (parms : List (List ℕ)) (keys : List (Option ℕ)) (r : Result ℕ CookStop) → IsVault new → AreValues (parms_of t) parms
-    → Gives old new (basic_geo_now files t parms (inputs_seen old keys)) r → AreGoodAt old keys → IfOk r (λ key. IsSomeAnd (at new.geos key) IsGood)
+    → Gives old new (basic_geo files t parms (inputs_seen old keys)) r → AreGoodAt old keys → IfOk r (λ key. IsSomeAnd (at new.geos key) IsGood)
 good_made old new files t parms keys (Ok key) is are (g, made, add) good =
     let sound = (readable_at new is key g add.geos.here).0.sound in
-    subst (λ o. IsSomeAnd o IsGood) (sym add.geos.here) (record { sound = sound; corners = now_has files t parms (inputs_seen old keys) (seen_have old keys good) are g made })
+    subst (λ o. IsSomeAnd o IsGood) (sym add.geos.here) (record { sound = sound; corners = basic_has files parms (inputs_seen old keys) (seen_have old keys good) t are g made })
 good_made old new files t parms keys (Err s) is are gives good = tt
 
 -- ---- limits
@@ -236,14 +233,7 @@ limits_fit : (g h : Geo) (b : Bool) → fits g ≡ b → (if b then Ok g else Er
 limits_fit g h true fit is = let same : g ≡ h = cc in subst Fits same (Fits-from_fits g fit)
 limits_fit g h false fit is = absurd (cc)
 
-limited_fits : (outcome : Outcome) (g : Geo) → limited outcome ≡ Ok g → Fits g
+-- what a node gives passes no limit
+pub limited_fits : (outcome : Outcome) (g : Geo) → limited outcome ≡ Ok g → Fits g
 limited_fits (Ok h) g is = limits_fit h g (fits h) refl is
 limited_fits (Err f) g is = absurd (cc)
-
-now_fits_if : (b : Bool) (outcome : Outcome) (g : Geo) → (if b then Err NotYet else limited outcome) ≡ Ok g → Fits g
-now_fits_if true outcome g is = absurd (cc)
-now_fits_if false outcome g is = limited_fits outcome g is
-
--- what a node gives passes no limit
-pub now_fits : (files : FileMap) (t : NodeType) (parms : List (List ℕ)) (inputs : List (Option Geo)) (g : Geo) → basic_geo_now files t parms inputs ≡ Ok g → Fits g
-now_fits files t parms inputs g is = now_fits_if (has_pattern t parms) (made_by (maker_of t) everything files parms inputs) g is

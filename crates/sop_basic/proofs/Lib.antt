@@ -1,5 +1,6 @@
 mod Examples
 pub mod MakingLemmas
+pub mod SelectLemmas
 pub mod MovementLemmas
 pub mod ShapeLemmas
 pub mod ParmLemmas

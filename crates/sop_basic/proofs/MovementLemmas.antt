@@ -1,8 +1,9 @@
 -- Points moved one after the other: one more, the last, and a stop.
 use Rattle.std.proofs.Common.{◌≡◌, ℕ, zero, suc, ◌+◌, ◌<◌, ◌≤◌, List, [], ◌∷◌, ◌++◌, length, drop, get_or, replicate, refl, sym, ap, ◌∙◌, subst, arith, append_assoc, length-append, length-drop}
-use Rattle.std.specs.Prelude.{Some, Result, Ok, Err, IfSome, IsSomeAnd, slice_get, map, option_map}
+use Rattle.std.specs.Prelude.{All, Some, Result, Ok, Err, slice_get, slice_set, map, option_map}
 use Rattle.std.specs.List.{range_with_len}
 use Rattle.std.proofs.lemmas.List.{length-map}
+use Rattle.std.proofs.lemmas.List.Elements.{All-head, All-tail}
 use Rattle.std.proofs.lemmas.List.FromFn.{length-range_with_len}
 use Rattle.sop_fixed.specs.declared.fault.NumFault.{NumFault}
 use Rattle.sop_fixed.specs.declared.vec3.Vec3.{Vec3}
@@ -10,6 +11,8 @@ use Rattle.sop_model.specs.declared.class.Class.TheVariants.{Point}
 use Rattle.sop_model.specs.declared.geo.Geo.{Geo}
 use Rattle.sop_model.specs.declared.geo.Row.{Row}
 use Rattle.sop_model.specs.declared.geo.Head.{Head}
+use Rattle.sop_model.specs.declared.geo.HeadSet.{HeadSet}
+use Rattle.sop_model.specs.declared.value.Value.{Value}
 use Rattle.sop_model.specs.declared.value.Kind.TheVariants as kind
 use Rattle.sop_model.specs.declared.fault.Fault.{Fault}
 use Rattle.sop_model.specs.declared.fault.Fault.TheVariants as fault
@@ -17,11 +20,11 @@ use Rattle.sop_model.specs.declared.fault.CookStop.{CookStop}
 use Rattle.sop_model.specs.declared.fault.CookStop.TheVariants as stop
 use Rattle.sop_model.specs.declared.value.Value.TheVariants as value
 use Rattle.sop_model.specs.Limits.{most_points}
-use Rattle.sop_model.specs.Geometry.{empty_row, only_position, empty_geo, BeginsWithPosition, IsReadable}
-use Rattle.sop_model.specs.Values.{zero_vector}
+use Rattle.sop_model.specs.Geometry.{empty_row, only_position, empty_geo, BeginsWithPosition, IsRowOf, IsReadable}
+use Rattle.sop_model.specs.Values.{zero_vector, kind_of}
 use Rattle.sop_model.specs.Plain.{point_row}
-use Rattle.sop_model.specs.Places.{place_of, places_of}
-use Rattle.sop_model.specs.Rows.{with_value, default_row, points_added, changed_at, value_set, HasHead, HasElement, IsOfHead}
+use Rattle.sop_model.specs.Places.{vector_in, place_of, places_of}
+use Rattle.sop_model.specs.Rows.{with_value, default_row, points_added, changed_at, value_set}
 use Rattle.sop_columns.proofs.NameLemmas.{grows_none}
 use Rattle.sop_vault.specs.Keyed.{at, IsLive}
 use Rattle.sop_vault.specs.Vaults.{VaultMap, Changed}
@@ -30,7 +33,7 @@ use Rattle.sop_basic.specs.Shapes.{shape}
 use Rattle.sop_basic.specs.Making.{Makes, HasPoints}
 use Rattle.sop_basic.specs.Movements.{Rule, of_point, point_moved, rows_moved, points_moved, points_made}
 use Rattle.sop_basic.proofs.ShapeLemmas.{places_long}
-use Rattle.sop_basic.proofs.MakingLemmas.{makes_then, makes_as, changed_then, touched_changed, touched_then, if_there, same_there, untouched, live_of}
+use Rattle.sop_basic.proofs.MakingLemmas.{makes_then, makes_as, made_at_once, changed_then, touched_changed, touched_then, same_there, untouched, live_of}
 
 abbrev pub put_before : List Row → Result (List Row) Fault → Result (List Row) Fault
 put_before front rest = then_with rest (λ rows. Ok (front ++ rows))
@@ -163,6 +166,36 @@ moving_done rule g old now key i all m =
       subst (λ (rows : List Row). Changed old now key (Some (record g { points = m.front ++ rows }))) none m.state,
     )
 
+-- ---- a point that stays
+kinds_first : (heads : List Head) (values : List Value) → BeginsWithPosition heads → map kind_of values ≡ map (λ h. h.kind) heads → option_map kind_of (slice_get values 0) ≡ Some kind.Vector
+kinds_first [] values begins kinds = absurd (cc)
+kinds_first (h ∷ heads) [] begins kinds = absurd (cc)
+kinds_first (h ∷ heads) (v ∷ values) begins kinds =
+    let same : kind_of v ≡ h.kind = cc in
+    ap Some (same ∙ ap (λ (h : Head). h.kind) begins)
+
+own_first : (values : List Value) → option_map kind_of (slice_get values 0) ≡ Some kind.Vector → slice_set values 0 (value.Vector (vector_in (slice_get values 0))) ≡ values
+own_first [] is = absurd (cc)
+own_first (value.Vector v ∷ values) is = refl
+own_first (value.Int n ∷ values) is = absurd (cc)
+own_first (value.Real x ∷ values) is = absurd (cc)
+own_first (value.Str text ∷ values) is = absurd (cc)
+own_first (value.Ints ns ∷ values) is = absurd (cc)
+own_first (value.Reals xs ∷ values) is = absurd (cc)
+own_first (value.Vectors vs ∷ values) is = absurd (cc)
+own_first (value.Strs texts ∷ values) is = absurd (cc)
+
+rows_own : (set : HeadSet) → BeginsWithPosition set.heads → (rows : List Row) → All (IsRowOf set) rows → (i : ℕ) (p : Vec3) → slice_get (map place_of rows) i ≡ Some p → changed_at (with_value 0 (value.Vector p)) rows i ≡ rows
+rows_own set begins [] are i p is = refl
+rows_own set begins (row ∷ rows) are zero p is =
+    let same : place_of row ≡ p = cc in
+    let own = own_first row.values (kinds_first set.heads row.values begins (All-head (IsRowOf set) row rows are).kinds) in
+    ap (λ r. r ∷ rows) (ap (λ (v : Vec3). with_value 0 (value.Vector v) row) (sym same) ∙ ap (λ vs. record row { values = vs }) own)
+rows_own set begins (row ∷ rows) are (suc i) p is = ap (λ rs. row ∷ rs) (rows_own set begins rows (All-tail (IsRowOf set) row rows are) i p is)
+
+pub place_own : (g : Geo) (i : ℕ) (p : Vec3) → IsReadable g → slice_get (places_of g) i ≡ Some p → value_set g Point 0 i (value.Vector p) ≡ g
+place_own g i p readable is = ap (λ (rows : List Row). record g { points = rows }) (rows_own g.point readable.sound.position g.points (readable.sound.rows Point) i p is)
+
 -- ---- one point, as a view tells it
 place_in : (rows : List Row) (i : ℕ) (p : Vec3) → slice_get (map place_of rows) i ≡ Some p → place_of (get_or rows i empty_row) ≡ p
 place_in [] i p is = cc
@@ -188,16 +221,16 @@ module _ (rule : Rule) (old : VaultMap) (key : ℕ) (seen : Geo) (i : ℕ) (p : 
   pub point_fails : (e : NumFault) → rule i p ≡ Err e → (h : Geo) → at old.geos key ≡ Some h → Makes old old key (point_moved rule h i) (Err (stop.Fault (fault.Range i)))
   point_fails e is h found = (outcome_of (Err e) is h found, untouched old key h found)
 
-  pub point_goes : (new : VaultMap) (v : Vec3) → rule i p ≡ Ok v → IfSome (at old.geos key) (λ g. Changed old new key (Some (value_set g Point 0 i (value.Vector v))))
-      → (h : Geo) → at old.geos key ≡ Some h → Makes old new key (point_moved rule h i) (Ok tt)
-  point_goes new v is set h found =
-      (value_set h Point 0 i (value.Vector v), outcome_of (Ok v) is h found, if_there (at old.geos key) (λ g. Changed old new key (Some (value_set g Point 0 i (value.Vector v)))) h found set)
+  pub point_put : (new : VaultMap) (v : Vec3) → rule i p ≡ Ok v → (r : Result (Unit {0}) CookStop) (h : Geo) → at old.geos key ≡ Some h → Makes old new key (Ok (value_set h Point 0 i (value.Vector v))) r → Makes old new key (point_moved rule h i) r
+  point_put new v is r h found made = makes_as old new key (Ok (value_set h Point 0 i (value.Vector v))) (point_moved rule h i) r (sym (outcome_of (Ok v) is h found)) made
 
-pub can_set : (v : VaultMap) (key : ℕ) (seen : Geo) (i : ℕ) (p : Vec3) → at v.geos key ≡ Some seen → IsReadable seen → i < length seen.points
-    → IsSomeAnd (at v.geos key) (λ g. HasHead g Point 0 × HasElement g Point i × IsOfHead g Point 0 (value.Vector p))
-can_set v key seen i p there readable lt =
-    let first = position_first seen.point.heads readable.sound.position in
-    subst (λ o. IsSomeAnd o (λ g. HasHead g Point 0 × HasElement g Point i × IsOfHead g Point 0 (value.Vector p))) (sym there) (first.0, lt, first.1)
+  -- a point that goes to its place changes nothing
+  pub point_stays : (v : Vec3) → v ≡ p → rule i p ≡ Ok v → IsReadable seen → (h : Geo) → at old.geos key ≡ Some h → Makes old old key (point_moved rule h i) (Ok tt)
+  point_stays v same is readable h found =
+      let here_too : IsReadable h = subst IsReadable (same_there (at old.geos key) seen h there found) readable in
+      let at_p : slice_get (places_of h) i ≡ Some p = subst (λ (x : Geo). slice_get (places_of x) i ≡ Some p) (same_there (at old.geos key) seen h there found) here in
+      let own : value_set h Point 0 i (value.Vector v) ≡ h = ap (λ (x : Vec3). value_set h Point 0 i (value.Vector x)) same ∙ place_own h i p here_too at_p in
+      makes_as old old key (Ok h) (point_moved rule h i) (Ok tt) (ap Ok (sym own) ∙ sym (outcome_of (Ok v) is h found)) (made_at_once old key h found)
 
 -- ---- as the loop asks
 pub moving_there : (rule : Rule) (g : Geo) (old now : VaultMap) (key i : ℕ) → i < length g.points → IsMoving rule g old now key i → (h : Geo) → at now.geos key ≡ Some h → i < length h.points

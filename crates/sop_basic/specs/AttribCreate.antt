@@ -21,7 +21,7 @@ use Rattle.sop_net.specs.Network.{parm_at}
 use Rattle.sop_net.specs.ParmValues.{are_numbers}
 use Rattle.sop_basic.specs.ParmTexts.{class_in, vector_in}
 use Rattle.sop_basic.specs.Outcomes.{Outcome, then_with}
-use Rattle.sop_basic.specs.Selecting.{Selecting}
+use Rattle.sop_basic.specs.Selecting.{by_pattern}
 use Rattle.sop_basic.specs.Heads.{is_position, is_kind, with_head, with_column}
 
 -- the word of a kind
@@ -65,10 +65,10 @@ set_where v (on ∷ flags) (old ∷ values) = (if on then v else old) ∷ set_wh
 abbrev pub set_under : Class → List ℕ → Value → Geo → List Bool → Geo
 set_under class name v g flags = with_column (with_head g class (record { name = name; kind = kind_of v })) class name (set_where v flags)
 
-abbrev pub created : Selecting → Class → List ℕ → List ℕ → Geo → Option Value → Outcome
-created select class name group g None = Err BadParm
-created select class name group g (Some v) = then_with (select g class group) (λ flags. Ok (set_under class name v g flags))
+abbrev pub created : Class → List ℕ → List ℕ → Geo → Option Value → Outcome
+created class name group g None = Err BadParm
+created class name group g (Some v) = then_with (by_pattern g class group) (λ flags. Ok (set_under class name v g flags))
 
 -- `class`, `name`, `kind`, `value`, `group`
-abbrev pub attrib_create_geo : Selecting → List (List ℕ) → Geo → Outcome
-attrib_create_geo select parms g = created select (class_in (parm_at parms 0)) (parm_at parms 1) (parm_at parms 4) g (value_told parms)
+abbrev pub attrib_create_geo : List (List ℕ) → Geo → Outcome
+attrib_create_geo parms g = created (class_in (parm_at parms 0)) (parm_at parms 1) (parm_at parms 4) g (value_told parms)

@@ -12,7 +12,7 @@ use Rattle.sop_model.specs.Names.{is_name}
 use Rattle.sop_net.specs.Network.{parm_at}
 use Rattle.sop_basic.specs.ParmTexts.{class_in}
 use Rattle.sop_basic.specs.Outcomes.{Outcome, then_with}
-use Rattle.sop_basic.specs.Selecting.{Selecting}
+use Rattle.sop_basic.specs.Selecting.{by_pattern}
 use Rattle.sop_basic.specs.Heads.{is_position, with_head, with_column}
 
 -- the selected ones count from k on
@@ -31,8 +31,8 @@ abbrev pub may_count : Class → List ℕ → Bool
 may_count class name = is_name name && not (is_position class name)
 
 -- `class`, `name`, `group`
-abbrev pub enumerate_geo : Selecting → List (List ℕ) → Geo → Outcome
-enumerate_geo select parms g =
+abbrev pub enumerate_geo : List (List ℕ) → Geo → Outcome
+enumerate_geo parms g =
     let class = class_in (parm_at parms 0) in
     let name = parm_at parms 1 in
-    if may_count class name then then_with (select g class (parm_at parms 2)) (λ flags. Ok (counted_under class name g flags)) else Err BadParm
+    if may_count class name then then_with (by_pattern g class (parm_at parms 2)) (λ flags. Ok (counted_under class name g flags)) else Err BadParm

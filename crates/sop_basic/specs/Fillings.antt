@@ -1,5 +1,5 @@
 -- The values of an attribute set one element after the other, and an attribute made sure of. For private contracts.
-use Rattle.std.specs.Prelude.{◌≡◌, ℕ, suc, pos, List, [], ◌∷◌, Option, None, Some, Result, Ok, Err, ⊤}
+use Rattle.std.specs.Prelude.{◌≡◌, ℕ, suc, Bool, true, false, pos, List, [], ◌∷◌, Option, None, Some, Result, Ok, Err, ⊤}
 use Rattle.sop_model.specs.declared.class.Class.{Class}
 use Rattle.sop_model.specs.declared.geo.Geo.{Geo}
 use Rattle.sop_model.specs.declared.geo.Row.{Row}
@@ -17,18 +17,20 @@ use Rattle.sop_basic.specs.declared.filling.Filling.{Filling}
 use Rattle.sop_basic.specs.declared.filling.Filling.TheVariants.{Same, Counted}
 use Rattle.sop_basic.specs.Making.{Touched}
 
--- the value of an element
+-- the value of the selected element of a number, counted among the selected
 abbrev pub filled_with : Filling → ℕ → Value
 filled_with (Same v) i = v.now
 filled_with Counted i = value.Int (pos i)
 
--- rows with the values of elements under a head, counted from i on
-abbrev pub rows_filled : (ℕ → Value) → ℕ → ℕ → List Row → List Row
-rows_filled values head i [] = []
-rows_filled values head i (row ∷ rows) = with_value head (values i) row ∷ rows_filled values head (suc i) rows
+-- rows with values under a head where they are selected, the first of which is the value of the number k
+abbrev pub rows_filled : (ℕ → Value) → ℕ → ℕ → List Bool → List Row → List Row
+rows_filled values head k [] rows = rows
+rows_filled values head k (on ∷ flags) [] = []
+rows_filled values head k (true ∷ flags) (row ∷ rows) = with_value head (values k) row ∷ rows_filled values head (suc k) flags rows
+rows_filled values head k (false ∷ flags) (row ∷ rows) = row ∷ rows_filled values head k flags rows
 
-abbrev pub filled : (ℕ → Value) → Class → ℕ → Geo → Geo
-filled values class head g = with_rows g class (rows_filled values head 0 (rows_of g class))
+abbrev pub filled : (ℕ → Value) → Class → ℕ → List Bool → Geo → Geo
+filled values class head flags g = with_rows g class (rows_filled values head 0 flags (rows_of g class))
 
 -- the attribute of this name and kind has this number
 pub record IsHeadAt (g : Geo) (class : Class) (head : Head) (number : ℕ) : Type 0 where

@@ -1,6 +1,6 @@
 -- Lines, grids and boxes as the code has them: from their parameters, and by which rules their points and primitives come. For private
 -- contracts.
-use Rattle.std.specs.Prelude.{ℕ, ◌+◌, ◌-◌, ◌*◌, ◌/◌, ◌%◌, suc, List, [], ◌∷◌, if◌then◌else◌, ◌==◌, ◌<◌, ◌≤◌, map, Ok, ⊤}
+use Rattle.std.specs.Prelude.{ℕ, false, length, slice_index_or, ◌+◌, ◌-◌, ◌*◌, ◌/◌, ◌%◌, suc, List, [], ◌∷◌, if◌then◌else◌, ◌==◌, ◌<◌, ◌≤◌, map, Ok, ⊤}
 use Rattle.std.specs.List.{range_with_len}
 use Rattle.sop_net.specs.Network.{parm_at}
 use Rattle.sop_basic.specs.declared.line.Line.{Line}
@@ -77,8 +77,9 @@ pub record TellsOfQuad (g : Grid) (i : ℕ) : Type 0 where
   pub rows : g.rows ≤ 1000
   pub cols : g.cols ≤ 1000
 
-abbrev pub move_in : List (List ℕ) → Move
-move_in parms = record { by = vector_in (parm_at parms 0); scale = vector_in (parm_at parms 1) }
+-- a point goes where it is selected
+abbrev pub moving : Move → Rule
+moving m i place = if slice_index_or m.selected.now i false then moved m.by m.scale place else Ok place
 
-abbrev pub move_rule : Move → Rule
-move_rule m i place = moved m.by m.scale place
+abbrev pub tells_of_move : Move → ℕ → Type 0
+tells_of_move m i = i < length m.selected.now

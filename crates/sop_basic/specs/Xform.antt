@@ -12,7 +12,7 @@ use Rattle.sop_model.specs.Rows.{column_held}
 use Rattle.sop_net.specs.Network.{parm_at}
 use Rattle.sop_basic.specs.ParmTexts.{vector_in}
 use Rattle.sop_basic.specs.Outcomes.{Outcome, then_with, vector_of, all_in_range}
-use Rattle.sop_basic.specs.Selecting.{Selecting}
+use Rattle.sop_basic.specs.Selecting.{by_pattern}
 
 abbrev pub scaled : ℤ → ℤ → ℤ → Result ℤ NumFault
 scaled p s t = then_with (product_of p s) (λ way. sum_of way t)
@@ -31,8 +31,8 @@ abbrev pub placed : Geo → List Vec3 → Geo
 placed g places = column_held g Point 0 (map value.Vector places)
 
 -- `t`, `s`, `group`
-abbrev pub xform_geo : Selecting → List (List ℕ) → Geo → Outcome
-xform_geo select parms g =
-    then_with (select g Point (parm_at parms 2)) (λ flags.
+abbrev pub xform_geo : List (List ℕ) → Geo → Outcome
+xform_geo parms g =
+    then_with (by_pattern g Point (parm_at parms 2)) (λ flags.
     then_with (all_in_range (moved_where (vector_in (parm_at parms 0)) (vector_in (parm_at parms 1)) flags (places_of g))) (λ places.
     Ok (placed g places)))

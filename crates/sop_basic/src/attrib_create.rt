@@ -1,5 +1,5 @@
 // `attribcreate`: an attribute with a value.
-ghost use Rattle.std.specs.Prelude.{◌≡◌, ◌≤◌, ◌&&◌, ◌||◌, ◌==◌, not, length, Some, None, Ok, IfOk, true, replicate, IsTrue, if◌then◌else◌};
+ghost use Rattle.std.specs.Prelude.{◌≡◌, ◌≤◌, ◌&&◌, ◌||◌, ◌==◌, not, length, Some, None, Ok, IfOk, IsTrue, if◌then◌else◌};
 ghost use Rattle.sop_outside.specs.Blanks.{words_of};
 ghost use Rattle.sop_model.specs.declared.geo.Geo.{Geo};
 ghost use Rattle.sop_model.specs.declared.value.Kind.TheVariants as kinds;
@@ -16,7 +16,6 @@ ghost use Rattle.sop_basic.specs.ParmTexts.{vector_in};
 ghost use Rattle.sop_basic.specs.Heads.{is_position, is_kind};
 ghost use Rattle.sop_basic.specs.Making.{Prepares, Gives};
 ghost use Rattle.sop_basic.specs.Outcomes.{limited};
-ghost use Rattle.sop_basic.specs.Selecting.{everything};
 ghost use Rattle.sop_basic.specs.Fillings.{ReadsValue};
 ghost use Rattle.sop_basic.specs.AttribCreate.{kind_in, value_in, may_have, value_told, set_under, attrib_create_geo};
 
@@ -24,6 +23,7 @@ use crate::filling::{Filling, fill};
 use crate::heads::{ensure_head, is_kind, is_position};
 use crate::making::finish;
 use crate::parm_texts::{class_in, vector_in};
+use crate::selecting::selected;
 use sop_fixed::{Vec3, read_numeral, read_whole};
 use sop_model::{Class, CookStop, Fault, GeoView, Kind, Value, is_name};
 use sop_net::Parms;
@@ -31,8 +31,8 @@ use sop_outside::{Text, words_of};
 use sop_vault::{GeoKey, Vault};
 use std::alloc::{AllocError, Global};
 
-/// Cooks an `attribcreate` node whose `group` has no word: a new key. `BadParm` for a bad name, a value that isn't a text of the kind, and
-/// the points' `P` with another kind than vector; `Limit` for a 65th attribute or the weight.
+/// Cooks an `attribcreate` node: a new key. `BadParm` for a bad name, a value that isn't a text of the kind, and the points' `P` with
+/// another kind than vector; then `BadGroup` and `NoGroup` as a pattern gives them; then `Limit` for a 65th attribute or the weight.
 pub fn cook_attrib_create<'b>(
     alloc: Global,
     vault: &mut Vault<'b>,
@@ -41,14 +41,19 @@ pub fn cook_attrib_create<'b>(
 ) -> Result<GeoKey, CookStop>
     requires live { IsLive vault.old.geos input }
     requires values { AreValues (parms_of type.AttribCreate) parms.now }
-    ensures { (g : Geo) → at vault.old.geos input ≡ Some g → Gives vault.old vault.new (limited (attrib_create_geo everything parms.now g)) result }
+    ensures { (g : Geo) → at vault.old.geos input ≡ Some g → Gives vault.old vault.new (limited (attrib_create_geo parms.now g)) result }
 {
     let value = match read_value(alloc, parms) {
         Ok(value) => value,
         Err(stop) => return Err(stop),
     };
+    let class = class_in(parms.text(0));
+    let flags = match selected(alloc, vault, input, class, parms.text(4)) {
+        Ok(flags) => flags,
+        Err(stop) => return Err(stop),
+    };
     let key = vault.share(input)?;
-    let made = set_elements(vault, key, class_in(parms.text(0)), parms.text(1), &value);
+    let made = set_elements(vault, key, class, parms.text(1), &value, &flags);
     finish(vault, key, made)
 }
 
@@ -135,23 +140,25 @@ fn is_number(text: &[u8]) -> bool
     read_numeral(text).is_ok()
 }
 
-/// Sets the value of all elements of a class under a name.
+/// Sets the value of the selected elements of a class under a name.
 fn set_elements<'b>(
     vault: &mut Vault<'b>,
     key: GeoKey,
     class: Class,
     name: &str,
     value: &Value,
+    selected: &[bool],
 ) -> Result<(), CookStop>
     requires live { IsLive vault.old.geos key }
+    requires each { (g : Geo) → at vault.old.geos key ≡ Some g → length selected.now ≡ count_of g class }
     requires fits { IsTrue (may_have class name.now (kind_of value.now)) }
     requires within { IsTrue (is_value_within value.now) }
-    ensures { (g : Geo) → at vault.old.geos key ≡ Some g → Prepares vault.old vault.new key (Ok (set_under class name.now value.now g (replicate (count_of g class) true))) result }
+    ensures { (g : Geo) → at vault.old.geos key ≡ Some g → Prepares vault.old vault.new key (Ok (set_under class name.now value.now g selected.now)) result }
 {
     if is_position(class, name) {
-        return set_places(vault, key, class, name, value);
+        return set_places(vault, key, class, name, value, selected);
     }
-    set_named(vault, key, class, name, value)
+    set_named(vault, key, class, name, value, selected)
 }
 
 /// The same where the name is that of the points' `P`, and the value a vector.
@@ -161,15 +168,17 @@ fn set_places<'b>(
     class: Class,
     name: &str,
     value: &Value,
+    selected: &[bool],
 ) -> Result<(), CookStop>
     requires live { IsLive vault.old.geos key }
+    requires each { (g : Geo) → at vault.old.geos key ≡ Some g → length selected.now ≡ count_of g class }
     requires position { IsTrue (is_position class name.now) }
     requires vector { kind_of value.now ≡ kinds.Vector }
     requires within { IsTrue (is_value_within value.now) }
-    ensures { (g : Geo) → at vault.old.geos key ≡ Some g → Prepares vault.old vault.new key (Ok (set_under class name.now value.now g (replicate (count_of g class) true))) result }
+    ensures { (g : Geo) → at vault.old.geos key ≡ Some g → Prepares vault.old vault.new key (Ok (set_under class name.now value.now g selected.now)) result }
 {
     match vault.view(key).find(class, name) {
-        Some(head) => fill(vault, key, class, head, &Filling::Same(value)),
+        Some(head) => fill(vault, key, class, head, &Filling::Same(value), selected),
         None => unreachable!(),
     }
 }
@@ -181,13 +190,15 @@ fn set_named<'b>(
     class: Class,
     name: &str,
     value: &Value,
+    selected: &[bool],
 ) -> Result<(), CookStop>
     requires live { IsLive vault.old.geos key }
+    requires each { (g : Geo) → at vault.old.geos key ≡ Some g → length selected.now ≡ count_of g class }
     requires name { IsTrue (is_name name.now) }
     requires apart { IsNoPosition class name.now }
     requires within { IsTrue (is_value_within value.now) }
-    ensures { (g : Geo) → at vault.old.geos key ≡ Some g → Prepares vault.old vault.new key (Ok (set_under class name.now value.now g (replicate (count_of g class) true))) result }
+    ensures { (g : Geo) → at vault.old.geos key ≡ Some g → Prepares vault.old vault.new key (Ok (set_under class name.now value.now g selected.now)) result }
 {
     let head = ensure_head(vault, key, class, name, value.kind())?;
-    fill(vault, key, class, head, &Filling::Same(value))
+    fill(vault, key, class, head, &Filling::Same(value), selected)
 }

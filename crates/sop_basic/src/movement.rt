@@ -1,5 +1,5 @@
 // Points moved one after the other.
-ghost use Rattle.std.specs.Prelude.{◌≡◌, ◌<◌, ◌≤◌, ℕ, Some, length};
+ghost use Rattle.std.specs.Prelude.{◌≡◌, ◌<◌, ◌≤◌, ℕ, Some, length, IsTrue};
 ghost use Rattle.sop_model.specs.declared.geo.Geo.{Geo};
 ghost use Rattle.sop_model.specs.Limits.{most_points};
 ghost use Rattle.sop_model.specs.Geometry.{empty_geo};
@@ -7,7 +7,8 @@ ghost use Rattle.sop_vault.specs.Keyed.{at, IsLive};
 ghost use Rattle.sop_basic.specs.Making.{Makes};
 ghost use Rattle.sop_basic.specs.Movements.{Rule, point_moved, points_moved, points_made};
 
-use crate::making::{add_points, stop_of};
+use crate::filling::set_value;
+use crate::making::add_points;
 use sop_fixed::{NumFault, Vec3};
 use sop_model::{Class, CookStop, Fault, GeoView, Value, place_of};
 use sop_vault::{GeoKey, Vault};
@@ -42,7 +43,7 @@ pub fn move_points<'b, M: Movement>(
     Ok(())
 }
 
-/// Moves one point.
+/// Moves one point. Where it stays nothing is written, so that its page stays shared.
 fn move_point<'b, M: Movement>(
     vault: &mut Vault<'b>,
     key: GeoKey,
@@ -56,13 +57,27 @@ fn move_point<'b, M: Movement>(
 {
     let place = place_of(&vault.view(key), point);
     let target = match movement.target(point, place) {
-        Ok(target) => Value::Vector(target),
+        Ok(target) => target,
         Err(_fault) => return Err(CookStop::Fault(Fault::Range(point))),
     };
-    if let Err(end) = vault.set(key, Class::Point, 0, point, &target) {
-        return Err(stop_of(end));
+    if is_one(target, place) {
+        return Ok(());
     }
-    Ok(())
+    set_value(
+        vault,
+        key,
+        Class::Point,
+        0,
+        point,
+        &Value::Vector(target),
+    )
+}
+
+/// Whether two places are one.
+fn is_one(a: Vec3, b: Vec3) -> bool
+    ensures { IsTrue result → a ≡ b }
+{
+    a == b
 }
 
 /// Makes so many points, at most 1,000,000, where the movement takes them from the middle. `Range` names the first whose arithmetic has

@@ -9,11 +9,10 @@ use Rattle.sop_net.specs.Network.{parm_at}
 use Rattle.sop_vault.specs.Vaults.{VaultMap}
 use Rattle.sop_basic.specs.ParmTexts.{class_in}
 use Rattle.sop_basic.specs.Outcomes.{Outcome, then_with, limited}
-use Rattle.sop_basic.specs.Selecting.{by_pattern}
+use Rattle.sop_basic.specs.Selecting.{by_pattern, StopsWith}
 use Rattle.sop_basic.specs.Making.{Gives}
 use Rattle.sop_combine.specs.Blast.{is_on, chosen, marks_on, blast_geo}
-use Rattle.sop_combine.specs.Steps.{StopsWith}
-use Rattle.sop_combine.proofs.SelectLemmas.{stops_at_once}
+use Rattle.sop_basic.proofs.SelectLemmas.{stops_at_once}
 
 -- a `blast` of a class, a pattern and flags
 abbrev pub blasted : Class → List ℕ → Bool → Bool → Geo → Outcome

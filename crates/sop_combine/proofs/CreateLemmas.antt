@@ -10,12 +10,11 @@ use Rattle.sop_net.specs.Network.{parm_at}
 use Rattle.sop_vault.specs.Vaults.{VaultMap}
 use Rattle.sop_basic.specs.ParmTexts.{class_in}
 use Rattle.sop_basic.specs.Outcomes.{Outcome, then_with, limited}
-use Rattle.sop_basic.specs.Selecting.{by_pattern}
+use Rattle.sop_basic.specs.Selecting.{by_pattern, StopsWith}
 use Rattle.sop_basic.specs.Making.{Gives}
 use Rattle.sop_combine.specs.declared.group_create.Combination.{Combination}
 use Rattle.sop_combine.specs.GroupCreate.{combination_in, with_group, members_combined, groupcreate_geo}
-use Rattle.sop_combine.specs.Steps.{StopsWith}
-use Rattle.sop_combine.proofs.SelectLemmas.{stops_at_once}
+use Rattle.sop_basic.proofs.SelectLemmas.{stops_at_once}
 
 -- a group of a class, a name and a pattern, whose name is one or isn't
 abbrev pub created : Class → List ℕ → List ℕ → Combination → Geo → Bool → Outcome

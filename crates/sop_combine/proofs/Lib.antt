@@ -1,5 +1,4 @@
 mod Examples
-pub mod SelectLemmas
 pub mod MarkLemmas
 pub mod RowLemmas
 pub mod GroupLemmas

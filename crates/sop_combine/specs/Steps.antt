@@ -1,31 +1,17 @@
--- Steps of these nodes: what a group pattern gives, and a group made sure of. For private contracts.
-use Rattle.std.specs.Prelude.{⊤, ◌≡◌, ◌≢◌, ℕ, List, Option, None, Some, Result, Ok, Err, IfSome, IsSomeAnd}
+-- Steps of these nodes: inputs appended, and a group made sure of. For private contracts.
+use Rattle.std.specs.Prelude.{◌≡◌, ◌≢◌, ℕ, List, Option, None, Some, Result, Ok, Err, IfSome, IsSomeAnd}
 use Rattle.sop_model.specs.declared.class.Class.{Class}
 use Rattle.sop_model.specs.declared.geo.Geo.{Geo}
-use Rattle.sop_model.specs.declared.fault.Fault.{Fault}
 use Rattle.sop_model.specs.declared.fault.Fault.TheVariants as fault
 use Rattle.sop_model.specs.declared.fault.CookStop.{CookStop}
 use Rattle.sop_model.specs.declared.fault.CookStop.TheVariants as stop
 use Rattle.sop_model.specs.Geometry.{IsSound}
 use Rattle.sop_model.specs.Appending.{appended}
 use Rattle.sop_model.specs.Rows.{group_named}
-use Rattle.sop_pattern.specs.declared.fault.PatternFault.{PatternFault}
-use Rattle.sop_pattern.specs.declared.fault.PatternFault.TheVariants.{BadWord, NoGroup, Memory}
 use Rattle.sop_vault.specs.Keyed.{at}
 use Rattle.sop_vault.specs.Vaults.{VaultMap, Changed}
 use Rattle.sop_vault.specs.Refusals.{PassesLimit}
 use Rattle.sop_basic.specs.Making.{Touched}
-
--- what the fault of a pattern is at a node
-abbrev pub pattern_stop : PatternFault → CookStop
-pattern_stop (BadWord i) = stop.Fault (fault.BadGroup i)
-pattern_stop (NoGroup i) = stop.Fault (fault.NoGroup i)
-pattern_stop Memory = stop.Memory
-
--- a step that stops with the fault that is told, or for want of memory
-abbrev pub StopsWith : {A : Type 0} → Result A Fault → CookStop → Type 0
-StopsWith told (stop.Fault f) = told ≡ Err f
-StopsWith told stop.Memory = ⊤
 
 -- an input behind a geometry, where it has one
 abbrev pub behind : Geo → Option Geo → Geo

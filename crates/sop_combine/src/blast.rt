@@ -11,8 +11,7 @@ ghost use Rattle.sop_basic.specs.Making.{Makes, Gives};
 ghost use Rattle.sop_combine.specs.Blast.{is_on, blast_geo};
 
 use crate::marking::marks_on;
-use crate::selecting::select;
-use sop_basic::{class_in, finish, stop_of};
+use sop_basic::{class_in, finish, selected, stop_of};
 use sop_model::CookStop;
 use sop_net::Parms;
 use sop_rows::Marks;
@@ -31,7 +30,7 @@ pub fn cook_blast<'b>(
     ensures { (g : Geo) → at vault.old.geos input ≡ Some g → Gives vault.old vault.new (limited (blast_geo parms.now g)) result }
 {
     let class = class_in(parms.text(0));
-    let flags = match select(alloc, vault, input, class, parms.text(1)) {
+    let flags = match selected(alloc, vault, input, class, parms.text(1)) {
         Ok(flags) => flags,
         Err(stop) => return Err(stop),
     };

@@ -18,6 +18,16 @@ use sop_net::{NodeType, Parms};
 use sop_vault::{GeoKey, Vault};
 use std::alloc::Global;
 
+/// Whether a type is a combining one: `merge`, `blast` or `groupcreate`.
+pub fn is_combining(node_type: NodeType) -> bool
+    ensures { result ≡ is_combining node_type }
+{
+    matches!(
+        node_type,
+        NodeType::Merge | NodeType::Blast | NodeType::GroupCreate
+    )
+}
+
 /// Cooks a node of a combining type, with all inputs of its type by rising number, the needed ones of which are given: a new key of what the node
 /// gives, well made where its inputs are, and all else in the vault stays. The fault of the node else; want of memory may come at any time.
 /// After an `Err` every key and its pages are as before.

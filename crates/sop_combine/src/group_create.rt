@@ -10,8 +10,7 @@ ghost use Rattle.sop_basic.specs.Making.{Gives};
 ghost use Rattle.sop_combine.specs.GroupCreate.{combination_in, combined, groupcreate_geo};
 
 use crate::members::combine_members;
-use crate::selecting::select;
-use sop_basic::{class_in, finish};
+use sop_basic::{class_in, finish, selected};
 use sop_model::{CookStop, Fault, is_name};
 use sop_net::Parms;
 use sop_vault::{GeoKey, Vault};
@@ -76,7 +75,7 @@ pub fn cook_group_create<'b>(
     if !is_name(name.as_bytes()) {
         return Err(CookStop::Fault(Fault::BadParm));
     }
-    let flags = match select(alloc, vault, input, class, parms.text(2)) {
+    let flags = match selected(alloc, vault, input, class, parms.text(2)) {
         Ok(flags) => flags,
         Err(stop) => return Err(stop),
     };

@@ -7,6 +7,5 @@ mod group_create;
 mod marking;
 mod members;
 mod merge;
-mod selecting;
 
-pub use cook::cook_combine;
+pub use cook::{cook_combine, is_combining};

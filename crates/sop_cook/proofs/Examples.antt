@@ -30,6 +30,7 @@ nodes =
     ∷ node 7 type.Merge [] (None ∷ Some 0 ∷ None ∷ Some 5 ∷ [])
     ∷ node 8 type.Merge [] (Some 3 ∷ Some 2 ∷ Some 1 ∷ [])
     ∷ node 9 type.Blast [] (None ∷ [])
+    ∷ node 14 type.Sort [] (None ∷ [])
     ∷ node 11 type.Xform (codes "0 0 0" ∷ codes "1 1 1" ∷ [] ∷ []) (None ∷ [])
     ∷ node 12 type.Xform (codes "0 0 0" ∷ codes "1 1 1" ∷ codes "g" ∷ []) (Some 0 ∷ [])
     ∷ node 10 type.CopyToPoints [] (Some 1 ∷ None ∷ [])
@@ -61,14 +62,17 @@ an_unwired_input_of_a_merge_is_passed_over = refl
 the_first_fault_wins : cook_of files nodes 8 ≡ Err (failed 2 fault.NoFile)
 the_first_fault_wins = refl
 
-a_type_that_is_not_built : cook_of files nodes 9 ≡ Err (failed 9 fault.NotYet)
+a_type_that_is_not_built : cook_of files nodes 14 ≡ Err (failed 14 fault.NotYet)
 a_type_that_is_not_built = refl
+
+an_unwired_input_of_a_combining_node : cook_of files nodes 9 ≡ Err (failed 9 (fault.NoInput 0))
+an_unwired_input_of_a_combining_node = refl
 
 an_unwired_input_of_a_basic_node : cook_of files nodes 11 ≡ Err (failed 11 (fault.NoInput 0))
 an_unwired_input_of_a_basic_node = refl
 
-a_pattern_that_is_not_read : cook_of files nodes 12 ≡ Err (failed 12 fault.NotYet)
-a_pattern_that_is_not_read = refl
+a_group_that_is_not_there : cook_of files nodes 12 ≡ Err (failed 12 (fault.NoGroup 0))
+a_group_that_is_not_there = refl
 
 -- although its inputs have faults
 a_type_that_is_not_built_asks_for_nothing : visit files 10 (Some (node 10 type.CopyToPoints [] (Some 1 ∷ None ∷ []))) ≡ Visit.Give (Err (failed 10 fault.NotYet))

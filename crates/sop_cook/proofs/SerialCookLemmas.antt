@@ -1,12 +1,10 @@
 -- The rule of the cook, which speaks of no bound, and what holds of every cook.
-use Rattle.std.proofs.Common.{◌≡◌, refl, ◌∙◌, ap, subst, ℕ, zero, suc, List, [], ◌∷◌, length, Bool, true, false, if◌then◌else◌}
+use Rattle.std.proofs.Common.{◌≡◌, refl, ◌∙◌, ap, subst, ℕ, zero, suc, List, [], ◌∷◌, length}
 use Rattle.std.specs.Prelude.{Option, None, Some, Result, Ok, Err, Contains, IsTrue, ⊤}
 use Rattle.sop_model.specs.declared.geo.Geo.{Geo}
 use Rattle.sop_model.specs.declared.fault.Fault.{Fault}
 use Rattle.sop_model.specs.declared.fault.Fault.TheVariants as fault
 use Rattle.sop_model.specs.Faults.{has_named_node}
-use Rattle.sop_model.specs.Geometry.{fits}
-use Rattle.sop_model.specs.Merge.{merged}
 use Rattle.geo_text.specs.ObjMeaning as refusal
 use Rattle.geo_text.specs.ObjMeaning.{meaning, Refusal}
 use Rattle.sop_net.specs.Graph.{Steps, Reaches, Within}
@@ -19,12 +17,12 @@ use Rattle.sop_basic.specs.declared.loaded.LoadedFile.{LoadedFile}
 use Rattle.sop_basic.specs.declared.loaded.LoadedFile.TheVariants.{Bytes, Missing, TooLong}
 use Rattle.sop_basic.specs.Loads.{FileMap}
 use Rattle.sop_basic.specs.File.{of_text, file_geo}
-use Rattle.sop_basic.specs.Basic.{basic_geo_now}
-use Rattle.sop_cook.specs.Made.{merge_geo, given, maker_of, made}
+use Rattle.sop_cook.specs.Made.{made}
 use Rattle.sop_cook.specs.Visit.{Outcome, Failure, failed, at_node, Visit, visit}
 use Rattle.sop_cook.specs.SerialCook.{run, cooked, cook_of}
 use Rattle.sop_cook.specs.Laws.{Asks, IsUsedWire, AreAlike, IsMissing}
-use Rattle.sop_cook.proofs.BasicFaults.{Fails, HoldsOfOwn, basic_fails}
+use Rattle.sop_cook.proofs.BasicFaults.{Fails, HoldsOfOwn}
+use Rattle.sop_cook.proofs.CombineFaults.{node_fails}
 use Rattle.sop_cook.proofs.VisitLemmas.{visit_asks, Ends, visit_ends, run_ends, same_run, same_visit}
 
 -- what is asked of a visit, where it holds of each used wire
@@ -120,6 +118,8 @@ own_missing files t parms = record {
   not_yet = λ e. let no : ⊥ = cc in absurd no;
   no_input = λ i e. let no : ⊥ = cc in absurd no;
   bad_parm = λ e. let no : ⊥ = cc in absurd no;
+  bad_group = λ i e. let no : ⊥ = cc in absurd no;
+  no_group = λ i e. let no : ⊥ = cc in absurd no;
   range = λ i e. let no : ⊥ = cc in absurd no;
   limit = λ e. let no : ⊥ = cc in absurd no;
 }
@@ -141,21 +141,11 @@ file_missing files t parms is = by (files (parm_at parms 0)) refl
 fails_as : (P : Fault → Type 0) (r : Result Geo Fault) (f : Fault) → Fails P r → r ≡ Err f → P f
 fails_as P r f fails is = subst (Fails P) is fails
 
-merge_finds : (gs : List Geo) → merge_geo gs ≡ Err fault.NoFile → ⊥
-merge_finds gs h = by (fits (merged gs)) h
-  where
-    by : (b : Bool) → (if b then Ok (merged gs) else Err fault.Limit) ≡ Err fault.NoFile → ⊥
-    by true e = cc
-    by false e = cc
-
-basic_missing : (files : FileMap) (t : NodeType) (n : Node) (inputs : List (Option Geo)) → basic_geo_now files t n.parms inputs ≡ Err fault.NoFile → (file_of_type t n ≡ Some (parm_at n.parms 0)) × (files (parm_at n.parms 0) ≡ Missing)
-basic_missing files t n inputs h =
-    let told = fails_as (TellsMissing files t n.parms) (basic_geo_now files t n.parms inputs) fault.NoFile (basic_fails (TellsMissing files t n.parms) (own_missing files t n.parms) files t n.parms inputs (file_missing files t n.parms)) h refl in
+made_missing : (files : FileMap) (n : Node) (inputs : List (Option Geo)) → made files n inputs ≡ Err fault.NoFile → (file_of_type n.node_type n ≡ Some (parm_at n.parms 0)) × (files (parm_at n.parms 0) ≡ Missing)
+made_missing files n inputs h =
+    let t = n.node_type in
+    let told = fails_as (TellsMissing files t n.parms) (made files n inputs) fault.NoFile (node_fails (TellsMissing files t n.parms) (own_missing files t n.parms) files t n.parms inputs (file_missing files t n.parms)) h refl in
     (ap (λ t. file_of_type t n) told.0, told.1)
-
-made_missing : (files : FileMap) (n : Node) (t : NodeType) (inputs : List (Option Geo)) → maker_of t files n inputs ≡ Err fault.NoFile → (file_of_type t n ≡ Some (parm_at n.parms 0)) × (files (parm_at n.parms 0) ≡ Missing)
-made_missing files n type.Merge inputs h = absurd (merge_finds (given inputs) h)
-made_missing files n other inputs h = basic_missing files other n inputs h
 
 -- a cook gives NoFile only at a node whose file is missing
 pub no_file : (files : FileMap) (nodes : List Node) (x : ℕ) → Within (used_sources nodes) (length nodes) x → (y : ℕ) → cook_of files nodes x ≡ Err (failed y fault.NoFile) → IsMissing files nodes x y
@@ -164,7 +154,7 @@ no_file files nodes x within y h =
     (λ z input r e. let no : ⊥ = cc in absurd no)
     (λ z r e. let no : ⊥ = cc in absurd no)
     (λ z n inputs f r found is e.
-    let own = made_missing files n n.node_type inputs (is ∙ ap Err e) in
+    let own = made_missing files n inputs (is ∙ ap Err e) in
     record { reached = r; name = parm_at n.parms 0; file = ap file_of_node found ∙ own.0; missing = own.1 })
     (failed y fault.NoFile) h refl
 
@@ -174,7 +164,7 @@ abbrev IsNamed : Fault → Type 0
 IsNamed f = IsTrue (has_named_node f)
 
 own_named : HoldsOfOwn IsNamed
-own_named = record { not_yet = refl; no_input = λ i. refl; bad_parm = refl; range = λ i. refl; limit = refl }
+own_named = record { not_yet = refl; no_input = λ i. refl; bad_parm = refl; bad_group = λ i. refl; no_group = λ i. refl; range = λ i. refl; limit = refl }
 
 file_named : (file : LoadedFile) → Fails IsNamed (file_geo file)
 file_named (Bytes bytes) = read (meaning bytes)
@@ -187,18 +177,10 @@ file_named (Bytes bytes) = read (meaning bytes)
 file_named Missing = refl
 file_named TooLong = refl
 
-merge_named : (gs : List Geo) → Fails IsNamed (merge_geo gs)
-merge_named gs = by (fits (merged gs))
-  where
-    by : (b : Bool) → Fails IsNamed (if b then Ok (merged gs) else Err fault.Limit)
-    by true = tt
-    by false = refl
-
-made_named : (files : FileMap) (n : Node) (t : NodeType) (inputs : List (Option Geo)) → Fails IsNamed (maker_of t files n inputs)
-made_named files n type.Merge inputs = merge_named (given inputs)
-made_named files n other inputs = basic_fails IsNamed own_named files other n.parms inputs (λ is. file_named (files (parm_at n.parms 0)))
+made_named : (files : FileMap) (n : Node) (inputs : List (Option Geo)) → Fails IsNamed (made files n inputs)
+made_named files n inputs = node_fails IsNamed own_named files n.node_type n.parms inputs (λ is. file_named (files (parm_at n.parms 0)))
 
 pub failure_named : (files : FileMap) (nodes : List Node) (x : ℕ) → Within (used_sources nodes) (length nodes) x → (f : Failure) → cook_of files nodes x ≡ Err f → IsTrue (has_named_node f.fault)
 failure_named files nodes x within =
     cook_fails (λ f. IsTrue (has_named_node f.fault)) files nodes x within (λ y input r. refl) (λ y r. refl)
-    (λ y n inputs f r found is. fails_as IsNamed (made files n inputs) f (made_named files n n.node_type inputs) is)
+    (λ y n inputs f r found is. fails_as IsNamed (made files n inputs) f (made_named files n inputs) is)

@@ -14,7 +14,7 @@ use Rattle.sop_net.proofs.UsedLemmas.{wired_at}
 use Rattle.sop_basic.specs.Loads.{FileMap}
 use Rattle.sop_basic.specs.Outcomes.{limited}
 use Rattle.sop_basic.specs.File.{file_geo}
-use Rattle.sop_cook.specs.Made.{maker_of, made, is_built}
+use Rattle.sop_cook.specs.Made.{node_geo, made, is_built}
 use Rattle.sop_cook.specs.Visit.{Outcome, failed, at_node, Visit, ask, ask_all, visit_if, visit}
 use Rattle.sop_cook.specs.SerialCook.{then_with, run}
 use Rattle.sop_cook.specs.Laws.{Asks, IsUsedWire}
@@ -113,9 +113,9 @@ same_run f g (Visit.Ask input source more) same =
     ap (λ r. then_with r (λ geo. run f (more geo))) same.0
     ∙ same_then (g source) (λ geo. run f (more geo)) (λ geo. run g (more geo)) (λ geo. same_run f g (more geo) (same.1 geo))
 
-same_made : (files others : FileMap) (n : Node) (t : NodeType) → (t ≡ type.File → files (parm_at n.parms 0) ≡ others (parm_at n.parms 0)) → (inputs : List (Option Geo)) → maker_of t files n inputs ≡ maker_of t others n inputs
-same_made files others n type.File file inputs = ap (λ load. limited (file_geo load)) (file refl)
-same_made files others n other file inputs = refl
+same_made : (files others : FileMap) (t : NodeType) (parms : List (List ℕ)) → (t ≡ type.File → files (parm_at parms 0) ≡ others (parm_at parms 0)) → (inputs : List (Option Geo)) → node_geo files t parms inputs ≡ node_geo others t parms inputs
+same_made files others type.File parms file inputs = ap (λ load. limited (file_geo load)) (file refl)
+same_made files others other parms file inputs = refl
 
 -- a node's visit is the same where its file is
 pub same_visit : (files others : FileMap) (x : ℕ) (found : Option Node) → ((n : Node) → found ≡ Some n → n.node_type ≡ type.File → files (parm_at n.parms 0) ≡ others (parm_at n.parms 0)) → visit files x found ≡ visit others x found
@@ -125,5 +125,5 @@ same_visit files others x (Some n) file = by (is_built n.node_type)
     by : (b : Bool) → visit_if b files x n ≡ visit_if b others x n
     by false = refl
     by true =
-        let same : made files n ≡ made others n = λ i inputs. same_made files others n n.node_type (file n refl) inputs i in
+        let same : made files n ≡ made others n = λ i inputs. same_made files others n.node_type n.parms (file n refl) inputs i in
         ap (λ (make : List (Option Geo) → Result Geo Fault). ask_all x (sockets_of n) (λ inputs. Visit.Give (at_node x (make inputs)))) same

@@ -2,14 +2,8 @@
 use Rattle.std.specs.Prelude.{◌≡◌, ℕ, ⊤, List, [], ◌∷◌, Option, Some, Result, Ok, Err, length, None, slice_get, slice_set, All, IsSome, IsSomeAnd, IsTrue}
 use Rattle.sop_model.specs.declared.geo.Geo.{Geo}
 use Rattle.sop_model.specs.declared.fault.Fault as fault
-use Rattle.sop_model.specs.declared.fault.Fault.TheVariants as variant
 use Rattle.sop_model.specs.declared.fault.CookStop.{CookStop}
 use Rattle.sop_model.specs.declared.fault.CookStop.TheVariants as stop
-use Rattle.sop_model.specs.Geometry.{IsGood, IsWithin}
-use Rattle.sop_model.specs.Appending.{appended}
-use Rattle.sop_model.specs.Merge.{merged}
-use Rattle.sop_vault.specs.declared.vault_end.VaultEnd.{VaultEnd}
-use Rattle.sop_vault.specs.declared.vault_end.VaultEnd.TheVariants as vault_end
 use Rattle.sop_vault.specs.Keyed.{at}
 use Rattle.sop_vault.specs.Vaults.{VaultMap}
 use Rattle.sop_net.specs.declared.node.Node.{Node}
@@ -22,34 +16,11 @@ use Rattle.sop_cook.specs.Visit.{Outcome, failed, Visit}
 use Rattle.sop_cook.specs.SerialCook.{run}
 use Rattle.sop_cook.specs.Ends.{IsReady}
 
--- the geometries so far were merged, whatever the values weigh
-pub record Merged (gs : List Geo) (into : Geo) : Type 0 where
-  pub merge : merged gs ≡ into
-  pub inputs : All IsReady gs
-  pub good : IsGood into
-  pub within : IsWithin into
-
 -- the code answers exactly what one node makes, or want of memory
 abbrev pub TellsMade : Result Geo fault.Fault → Result Geo CookStop → Type 0
 TellsMade outcome (Ok g) = outcome ≡ Ok g
 TellsMade outcome (Err (stop.Fault f)) = outcome ≡ Err f
 TellsMade outcome (Err stop.Memory) = ⊤
-
--- the same of what is made of a geometry in place: where it is done, this stands there
-abbrev pub TellsDone : {A : Type 0} → Result Geo fault.Fault → Geo → Result A CookStop → Type 0
-TellsDone outcome g (Ok done) = outcome ≡ Ok g
-TellsDone outcome g (Err (stop.Fault f)) = outcome ≡ Err f
-TellsDone outcome g (Err stop.Memory) = ⊤
-
--- a limit of a vault is a fault, and all else is want of memory
-abbrev pub IsStopOf : VaultEnd → CookStop → Type 0
-IsStopOf vault_end.Limit it = it ≡ stop.Fault variant.Limit
-IsStopOf other it = it ≡ stop.Memory
-
--- why one geometry isn't put behind another: both together pass a limit, or there is no memory
-abbrev pub IsAppendStop : Geo → Geo → CookStop → Type 0
-IsAppendStop a b (stop.Fault f) = (f ≡ variant.Limit) × (IsWithin (appended a b) → ⊥)
-IsAppendStop a b stop.Memory = ⊤
 
 -- what is asked goes on with this answer, whatever is then done with it
 abbrev pub GoesOn : {A : Type 0} → (ℕ → Outcome) → ((A → Visit) → Visit) → A → Type 0

@@ -5,7 +5,6 @@ mod cook_end;
 mod kept;
 mod law;
 mod make;
-mod merge;
 mod serial;
 mod uses;
 

@@ -9,8 +9,8 @@ ghost use Rattle.sop_cook.specs.Ends.{seen};
 ghost use Rattle.sop_cook.specs.Keys.{inputs_at, key_of, IsReadyAt};
 ghost use Rattle.sop_cook.specs.Parts.{AreFilled, TellsMade};
 
-use crate::merge::merge;
-use sop_basic::{Loaded, cook_basic};
+use sop_basic::{Loaded, cook_basic, is_basic};
+use sop_combine::{cook_combine, is_combining};
 use sop_model::CookStop;
 use sop_net::{Net, NodeId, NodeType};
 use sop_vault::{GeoKey, Vault};
@@ -20,21 +20,7 @@ use std::alloc::Global;
 pub fn is_built(node_type: NodeType) -> bool
     ensures { result ≡ is_built node_type }
 {
-    matches!(
-        node_type,
-        NodeType::File
-            | NodeType::Add
-            | NodeType::Line
-            | NodeType::Grid
-            | NodeType::Box
-            | NodeType::Null
-            | NodeType::Switch
-            | NodeType::Xform
-            | NodeType::AttribCreate
-            | NodeType::AttribDelete
-            | NodeType::Enumerate
-            | NodeType::Merge
-    )
+    is_combining(node_type) || is_basic(node_type)
 }
 
 /// A new key of what a node makes of its inputs, one for each that it uses, and of its file.
@@ -56,8 +42,11 @@ pub fn make(
     ensures owns { Owns vault.new (key_of result) }
 {
     net.is_network();
-    match net.node_type(node) {
-        NodeType::Merge => merge(inputs, vault),
-        basic => cook_basic(alloc, vault, basic, net.parms(node), inputs, loaded),
+    let node_type = net.node_type(node);
+    let parms = net.parms(node);
+    if is_combining(node_type) {
+        cook_combine(alloc, vault, node_type, parms, inputs)
+    } else {
+        cook_basic(alloc, vault, node_type, parms, inputs, loaded)
     }
 }

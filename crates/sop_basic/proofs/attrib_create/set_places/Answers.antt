@@ -1,7 +1,6 @@
-use Rattle.std.proofs.Common.{◌≡◌, refl, sym, ap, ◌∙◌, subst, Some, None, Ok, true, replicate}
+use Rattle.std.proofs.Common.{◌≡◌, sym, ap, ◌∙◌, subst, Some, None, Ok}
 use Rattle.sop_model.specs.declared.geo.Geo.{Geo}
 use Rattle.sop_model.specs.declared.value.Kind.TheVariants as kind
-use Rattle.sop_model.specs.Geometry.{count_of}
 use Rattle.sop_model.specs.Values.{kind_of}
 use Rattle.sop_model.specs.Rows.{kind_at, head_named}
 use Rattle.sop_vault.specs.Keyed.{at}
@@ -34,8 +33,8 @@ returns c = λ g there.
     let kinded = subst (λ (x : Geo). kind_at x c.args.class 0 ≡ Some kind.Vector) same place.1 in
     let first : c.in-Some.head ≡ 0 = let e : Some c.in-Some.head ≡ Some 0 = sym c.in-Some.is ∙ c.find.ensures ∙ place.0 in cc in
     let stays = places_stay g c.args.class c.args.name.now (kind_of v) c.requires.vector named kinded in
-    let change = set_where v (replicate (count_of g c.args.class) true) in
+    let change = set_where v c.args.selected.now in
     subst (λ (x : Geo). Prepares c.args.vault.now c.fill.new.vault c.args.key (Ok (with_column x c.args.class c.args.name.now change)) c.fill.result) (sym stays)
     (subst (λ (x : Geo). Prepares c.args.vault.now c.fill.new.vault c.args.key (Ok x) c.fill.result)
-    (set_is v g c.args.class c.args.name.now c.in-Some.head (count_of g c.args.class) (named ∙ ap Some (sym first)) refl)
-    (prepares_of c.args.vault.now c.fill.new.vault c.args.key (Ok (filled (λ k. v) c.args.class c.in-Some.head g)) c.fill.result (c.fill.ensures g there)))
+    (set_is v g c.args.class c.args.name.now c.in-Some.head c.args.selected.now (named ∙ ap Some (sym first)))
+    (prepares_of c.args.vault.now c.fill.new.vault c.args.key (Ok (filled (λ k. v) c.args.class c.in-Some.head c.args.selected.now g)) c.fill.result (c.fill.ensures g there)))

@@ -6,4 +6,4 @@ use Rattle.sop_basic.proofs.FillLemmas.{IsFilling}
 use Rattle.sop_basic.proofs.filling.fill.Given as goal
 
 abbrev pub invariant-loop-element : goal.invariant-loop-element
-invariant-loop-element l = (geo : Geo) → at l.initial.vault.geos l.key ≡ Some geo → IsFilling (filled_with l.filling) l.class l.head geo l.initial.vault l.vault l.key l.element
+invariant-loop-element l = (geo : Geo) → at l.initial.vault.geos l.key ≡ Some geo → IsFilling (filled_with l.filling) l.class l.head l.selected geo l.initial.vault l.vault l.key l.element l.before

@@ -9,7 +9,7 @@ use Rattle.sop_basic.specs.Outcomes.{limited}
 use Rattle.sop_basic.proofs.ParmLemmas.{parm_read}
 use Rattle.sop_basic.proofs.MakingLemmas.{there_and, same_there, live_of, prepares_of}
 use Rattle.sop_combine.specs.Blast.{is_on, chosen, marks_on, blast_geo}
-use Rattle.sop_combine.proofs.SelectLemmas.{selected_long, memory_stops}
+use Rattle.sop_basic.proofs.SelectLemmas.{selected_long, memory_stops}
 use Rattle.sop_combine.proofs.MarkLemmas.{chosen_long, are_marks}
 use Rattle.sop_combine.proofs.BlastLemmas.{blast_stops, blast_is}
 use Rattle.sop_combine.proofs.blast.cook_blast.Goals as goal

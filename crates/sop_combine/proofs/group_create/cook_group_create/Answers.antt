@@ -10,7 +10,7 @@ use Rattle.sop_basic.specs.Outcomes.{limited}
 use Rattle.sop_basic.proofs.ParmLemmas.{parm_read}
 use Rattle.sop_basic.proofs.MakingLemmas.{there_is, same_there, kept_same, prepares_live}
 use Rattle.sop_combine.specs.GroupCreate.{combination_in, with_group, members_combined}
-use Rattle.sop_combine.proofs.SelectLemmas.{selected_long}
+use Rattle.sop_basic.proofs.SelectLemmas.{selected_long}
 use Rattle.sop_combine.proofs.CreateLemmas.{name_refused, create_is, create_stops}
 use Rattle.sop_combine.proofs.group_create.cook_group_create.Goals as goal
 

@@ -2,11 +2,10 @@ use Rattle.std.proofs.Common.{sym, subst}
 use Rattle.sop_model.specs.declared.geo.Geo.{Geo}
 use Rattle.sop_model.specs.declared.fault.CookStop.{CookStop}
 use Rattle.sop_vault.specs.Keyed.{at}
-use Rattle.sop_basic.specs.Selecting.{by_pattern}
+use Rattle.sop_basic.specs.Selecting.{by_pattern, StopsWith}
 use Rattle.sop_basic.proofs.MakingLemmas.{same_there}
-use Rattle.sop_combine.specs.Steps.{StopsWith}
-use Rattle.sop_combine.proofs.SelectLemmas.{select_stops}
-use Rattle.sop_combine.proofs.selecting.select.Goals as goal
+use Rattle.sop_basic.proofs.SelectLemmas.{select_stops}
+use Rattle.sop_basic.proofs.selecting.selected.Goals as goal
 
 pub returns-clause-err : goal.returns-clause-err
 returns-clause-err c = λ g there.

@@ -18,10 +18,9 @@ use Rattle.sop_pattern.specs.Words.{pattern_of}
 use Rattle.sop_pattern.specs.Selection.{selects, selection, lacks_group, unless_missing, IsSelectFault}
 use Rattle.sop_vault.specs.Vaults.{VaultMap}
 use Rattle.sop_basic.specs.Outcomes.{Outcome, then_with, limited}
-use Rattle.sop_basic.specs.Selecting.{by_pattern, of_words, or_no_group}
+use Rattle.sop_basic.specs.Selecting.{by_pattern, of_words, or_no_group, pattern_stop, StopsWith}
 use Rattle.sop_basic.specs.Making.{Gives}
 use Rattle.sop_basic.proofs.MakingLemmas.{kept_same}
-use Rattle.sop_combine.specs.Steps.{pattern_stop, StopsWith}
 
 module _ (g : Geo) (class : Class) (text : List ℕ) where
   -- a pattern that was read, and selects nothing

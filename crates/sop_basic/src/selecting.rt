@@ -3,8 +3,7 @@ ghost use Rattle.std.specs.Prelude.{◌≡◌, ◌≤◌, length, Some, Ok, IfOk
 ghost use Rattle.sop_model.specs.declared.geo.Geo.{Geo};
 ghost use Rattle.sop_model.specs.Limits.{most_pattern_bytes};
 ghost use Rattle.sop_vault.specs.Keyed.{at, IsLive};
-ghost use Rattle.sop_basic.specs.Selecting.{by_pattern};
-ghost use Rattle.sop_combine.specs.Steps.{pattern_stop, StopsWith};
+ghost use Rattle.sop_basic.specs.Selecting.{by_pattern, pattern_stop, StopsWith};
 
 use sop_model::{Class, CookStop, Fault};
 use sop_pattern::{Pattern, PatternFault};
@@ -13,7 +12,7 @@ use std::alloc::Global;
 
 /// A flag for each element of a class: whether the pattern of a text selects it. `BadGroup` has the number of the first bad word, from 0,
 /// else `NoGroup` that of the first word that is a name which no group of the class has.
-pub fn select<'b>(
+pub fn selected<'b>(
     alloc: Global,
     vault: &Vault<'b>,
     key: GeoKey,
