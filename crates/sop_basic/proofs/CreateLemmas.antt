@@ -1,6 +1,6 @@
 -- What an `attribcreate` node is told, by its parameters, and where the points' `P` stands.
-use Rattle.std.proofs.Common.{◌≡◌, ℕ, suc, ◌+◌, ◌≤◌, ◌||◌, Bool, true, false, not, cond, lt-ltb, le-leb, List, [], ◌∷◌, length, map, replicate, refl, sym, ap, ◌∙◌, subst, arith}
-use Rattle.std.specs.Prelude.{Option, Some, None, Ok, Err, position, option_map, slice_get, slice_index_or, pos, codes, if◌then◌else◌, nat_lt}
+use Rattle.std.proofs.Common.{◌≡◌, ℕ, suc, ◌+◌, ◌≤◌, ◌||◌, Bool, true, false, not, cond, lt-ltb, le-leb, List, [], ◌∷◌, length, map, refl, sym, ap, ◌∙◌, subst, arith}
+use Rattle.std.specs.Prelude.{Option, Some, None, Ok, Err, position, option_map, slice_get, codes, if◌then◌else◌, nat_lt}
 use Rattle.std.specs.List.{position_or_len}
 use Rattle.std.specs.Str.{bytes_eq}
 use Rattle.std.specs.Result.{result_ok}
@@ -19,8 +19,8 @@ use Rattle.sop_model.specs.declared.value.Value.{Value}
 use Rattle.sop_model.specs.declared.value.Value.TheVariants as value
 use Rattle.sop_model.specs.Names.{is_name}
 use Rattle.sop_model.specs.Values.{kind_of, default_of, is_value_within}
-use Rattle.sop_model.specs.Geometry.{rows_of, count_of, BeginsWithPosition}
-use Rattle.sop_model.specs.Rows.{with_value, with_rows, rows_held, column_of, column_held, kind_at, head_named, attr_added, attr_deleted}
+use Rattle.sop_model.specs.Geometry.{rows_of, BeginsWithPosition}
+use Rattle.sop_model.specs.Rows.{with_value, with_rows, rows_held, kind_at, head_named, attr_added, attr_deleted}
 use Rattle.sop_rows.proofs.FirstLemmas.{same_bytes}
 use Rattle.sop_net.specs.Network.{parm_at}
 use Rattle.sop_vault.specs.Vaults.{VaultMap}
@@ -139,6 +139,7 @@ module _ (parms : List (List ℕ)) (class : Class) (name group : List ℕ) (v : 
 
   pub create_stops : (vault : VaultMap) (g : Geo) (s : CookStop) → StopsWith (by_pattern g class group) s → Gives vault vault (limited (attrib_create_geo parms g)) (Err s)
   create_stops vault g s stops = subst (λ o. Gives vault vault (limited o) (Err s)) (told g) (stops_at_once vault (by_pattern g class group) (λ flags. Ok (set_under class name v g flags)) s stops)
+
 -- ---- values under an attribute where elements are selected
 rows_set : (v : Value) (head k : ℕ) (flags : List Bool) (rows : List Row) → rows_held head rows (set_where v flags (map (cell_at head) rows)) ≡ rows_filled (λ k. v) head k flags rows
 rows_set v head k [] rows = rows_own head rows

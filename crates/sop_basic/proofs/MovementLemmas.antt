@@ -224,13 +224,11 @@ module _ (rule : Rule) (old : VaultMap) (key : ℕ) (seen : Geo) (i : ℕ) (p : 
   pub point_put : (new : VaultMap) (v : Vec3) → rule i p ≡ Ok v → (r : Result (Unit {0}) CookStop) (h : Geo) → at old.geos key ≡ Some h → Makes old new key (Ok (value_set h Point 0 i (value.Vector v))) r → Makes old new key (point_moved rule h i) r
   point_put new v is r h found made = makes_as old new key (Ok (value_set h Point 0 i (value.Vector v))) (point_moved rule h i) r (sym (outcome_of (Ok v) is h found)) made
 
-  -- a point that goes to its place changes nothing
-  pub point_stays : (v : Vec3) → v ≡ p → rule i p ≡ Ok v → IsReadable seen → (h : Geo) → at old.geos key ≡ Some h → Makes old old key (point_moved rule h i) (Ok tt)
-  point_stays v same is readable h found =
-      let here_too : IsReadable h = subst IsReadable (same_there (at old.geos key) seen h there found) readable in
-      let at_p : slice_get (places_of h) i ≡ Some p = subst (λ (x : Geo). slice_get (places_of x) i ≡ Some p) (same_there (at old.geos key) seen h there found) here in
-      let own : value_set h Point 0 i (value.Vector v) ≡ h = ap (λ (x : Vec3). value_set h Point 0 i (value.Vector x)) same ∙ place_own h i p here_too at_p in
-      makes_as old old key (Ok h) (point_moved rule h i) (Ok tt) (ap Ok (sym own) ∙ sym (outcome_of (Ok v) is h found)) (made_at_once old key h found)
+-- a point that goes to its place changes nothing
+pub point_stays : (v : VaultMap) (key : ℕ) (h : Geo) (i : ℕ) (p to : Vec3) → p ≡ to → IsReadable h → slice_get (places_of h) i ≡ Some p → at v.geos key ≡ Some h → Makes v v key (Ok (value_set h Point 0 i (value.Vector to))) (Ok tt)
+point_stays v key h i p to same readable here there =
+    let own : value_set h Point 0 i (value.Vector to) ≡ h = ap (λ (x : Vec3). value_set h Point 0 i (value.Vector x)) (sym same) ∙ place_own h i p readable here in
+    makes_as v v key (Ok h) (Ok (value_set h Point 0 i (value.Vector to))) (Ok tt) (ap Ok (sym own)) (made_at_once v key h there)
 
 -- ---- as the loop asks
 pub moving_there : (rule : Rule) (g : Geo) (old now : VaultMap) (key i : ℕ) → i < length g.points → IsMoving rule g old now key i → (h : Geo) → at now.geos key ≡ Some h → i < length h.points

@@ -1,5 +1,5 @@
 -- Points moved in turn are the points moved where they are selected.
-use Rattle.std.proofs.Common.{◌≡◌, ℕ, suc, ◌<◌, Bool, false, List, [], ◌∷◌, length, map, drop, get_or, refl, sym, ap, ◌∙◌, subst, arith, length-drop}
+use Rattle.std.proofs.Common.{◌≡◌, ℕ, suc, Bool, false, List, [], ◌∷◌, length, map, drop, refl, sym, ap, ◌∙◌, subst, arith, length-drop}
 use Rattle.std.specs.Prelude.{Result, Ok, Err}
 use Rattle.sop_fixed.specs.declared.fault.NumFault.{NumFault}
 use Rattle.sop_fixed.specs.declared.vec3.Vec3.{Vec3}
@@ -44,11 +44,11 @@ module _ (m : Move) where
   -- the flags from the point i on are as many as the rows
   rows_are : (i : ℕ) (rows : List Row) → length (drop i m.selected.now) ≡ length rows
       → rows_moved (moving m) i rows ≡ then_with (in_range_from i (targets_of (drop i m.selected.now) rows)) (λ places. Ok (rows_held 0 rows (map value.Vector places)))
-  rows_are i [] long = sym (ap (λ fs. then_with (in_range_from i (targets_of fs [])) (λ places. Ok (rows_held 0 [] (map value.Vector places)))) (none (drop i m.selected.now) long))
+  rows_are i [] long = sym (ap (λ fs. then_with (in_range_from i (targets_of fs [])) (λ places. Ok (rows_held 0 [] (map value.Vector places)))) (empty (drop i m.selected.now) long))
     where
-      none : (flags : List Bool) → length flags ≡ 0 → flags ≡ []
-      none [] none = refl
-      none (on ∷ flags) none = absurd (omega (arith, none))
+      empty : (flags : List Bool) → length flags ≡ 0 → flags ≡ []
+      empty [] none = refl
+      empty (on ∷ flags) none = absurd (omega (arith, none))
   rows_are i (row ∷ rows) long =
       let left = length-drop i m.selected.now in
       let next = length-drop (suc i) m.selected.now in

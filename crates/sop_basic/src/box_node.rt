@@ -44,7 +44,7 @@ impl Movement for BoxShape {
 
     ghost tells = { tells_all };
 
-    fn target(&self, point: u32, _place: Vec3) -> Result<Vec3, NumFault> {
+    fn target(&self, point: u32, _place: &Vec3) -> Result<Vec3, NumFault> {
         Ok(Vec3 {
             x: side(point % 2, self.size.x, self.center.x)?,
             y: side(point / 2 % 2, self.size.y, self.center.y)?,

@@ -52,7 +52,7 @@ impl Movement for Grid {
 
     ghost tells = { TellsOfGrid };
 
-    fn target(&self, point: u32, _place: Vec3) -> Result<Vec3, NumFault> {
+    fn target(&self, point: u32, _place: &Vec3) -> Result<Vec3, NumFault> {
         Ok(Vec3 {
             x: across(self.sizex, self.cols, point % self.cols),
             y: zero(),

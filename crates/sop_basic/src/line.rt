@@ -53,7 +53,7 @@ impl Movement for Line {
 
     ghost tells = { tells_of_line };
 
-    fn target(&self, point: u32, _place: Vec3) -> Result<Vec3, NumFault> {
+    fn target(&self, point: u32, _place: &Vec3) -> Result<Vec3, NumFault> {
         let t = way_to(self.dist, self.points, point);
         Ok(Vec3 {
             x: along(self.origin.x, self.dir.x, t)?,

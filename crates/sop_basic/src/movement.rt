@@ -1,8 +1,12 @@
 // Points moved one after the other.
-ghost use Rattle.std.specs.Prelude.{◌≡◌, ◌<◌, ◌≤◌, ℕ, Some, length, IsTrue};
+ghost use Rattle.std.specs.Prelude.{◌≡◌, ◌<◌, ◌≤◌, ℕ, Some, Ok, length, slice_get, IsTrue};
 ghost use Rattle.sop_model.specs.declared.geo.Geo.{Geo};
 ghost use Rattle.sop_model.specs.Limits.{most_points};
+ghost use Rattle.sop_model.specs.declared.class.Class.TheVariants as class;
+ghost use Rattle.sop_model.specs.declared.value.Value.TheVariants as value;
 ghost use Rattle.sop_model.specs.Geometry.{empty_geo};
+ghost use Rattle.sop_model.specs.Places.{places_of};
+ghost use Rattle.sop_model.specs.Rows.{value_set};
 ghost use Rattle.sop_vault.specs.Keyed.{at, IsLive};
 ghost use Rattle.sop_basic.specs.Making.{Makes};
 ghost use Rattle.sop_basic.specs.Movements.{Rule, point_moved, points_moved, points_made};
@@ -21,9 +25,9 @@ pub trait Movement {
     ghost tells: { Self → ℕ → Type 0 };
 
     /// Where the point of a number goes from its place, or that its arithmetic has no result. It takes no memory.
-    fn target(&self, point: u32, place: Vec3) -> Result<Vec3, NumFault>
+    fn target(&self, point: u32, place: &Vec3) -> Result<Vec3, NumFault>
         requires { tells self.now point }
-        ensures { result ≡ rule self.now point place };
+        ensures { result ≡ rule self.now point place.now };
 }
 
 /// Moves each point. `Range` names the first whose arithmetic has no result.
@@ -43,7 +47,7 @@ pub fn move_points<'b, M: Movement>(
     Ok(())
 }
 
-/// Moves one point. Where it stays nothing is written, so that its page stays shared.
+/// Moves one point.
 fn move_point<'b, M: Movement>(
     vault: &mut Vault<'b>,
     key: GeoKey,
@@ -56,28 +60,37 @@ fn move_point<'b, M: Movement>(
     ensures { (g : Geo) → at vault.old.geos key ≡ Some g → Makes vault.old vault.new key (point_moved (M.rule movement.now) g point) result }
 {
     let place = place_of(&vault.view(key), point);
-    let target = match movement.target(point, place) {
-        Ok(target) => target,
-        Err(_fault) => return Err(CookStop::Fault(Fault::Range(point))),
-    };
-    if is_one(target, place) {
+    match movement.target(point, &place) {
+        Ok(target) => put_point(vault, key, point, &place, &target),
+        Err(_fault) => Err(CookStop::Fault(Fault::Range(point))),
+    }
+}
+
+/// Puts a point from a place to another. Where both are one nothing is written, so that its page stays shared.
+fn put_point<'b>(
+    vault: &mut Vault<'b>,
+    key: GeoKey,
+    point: u32,
+    from: &Vec3,
+    to: &Vec3,
+) -> Result<(), CookStop>
+    requires live { IsLive vault.old.geos key }
+    requires there { (g : Geo) → at vault.old.geos key ≡ Some g → point < length g.points }
+    requires from { (g : Geo) → at vault.old.geos key ≡ Some g → slice_get (places_of g) point ≡ Some from.now }
+    ensures { (g : Geo) → at vault.old.geos key ≡ Some g → Makes vault.old vault.new key (Ok (value_set g class.Point 0 point (value.Vector to.now))) result }
+{
+    vault.is_vault();
+    if is_one(from, to) {
         return Ok(());
     }
-    set_value(
-        vault,
-        key,
-        Class::Point,
-        0,
-        point,
-        &Value::Vector(target),
-    )
+    set_value(vault, key, Class::Point, 0, point, &Value::Vector(*to))
 }
 
 /// Whether two places are one.
-fn is_one(a: Vec3, b: Vec3) -> bool
-    ensures { IsTrue result → a ≡ b }
+fn is_one(a: &Vec3, b: &Vec3) -> bool
+    ensures { IsTrue result → a.now ≡ b.now }
 {
-    a == b
+    *a == *b
 }
 
 /// Makes so many points, at most 1,000,000, where the movement takes them from the middle. `Range` names the first whose arithmetic has

@@ -34,11 +34,11 @@ impl<'a> Movement for Move<'a> {
 
     ghost tells = { tells_of_move };
 
-    fn target(&self, point: u32, place: Vec3) -> Result<Vec3, NumFault> {
+    fn target(&self, point: u32, place: &Vec3) -> Result<Vec3, NumFault> {
         if self.selected[point as usize] {
-            moved(place, self.scale, self.by)
+            moved(*place, self.scale, self.by)
         } else {
-            Ok(place)
+            Ok(*place)
         }
     }
 }

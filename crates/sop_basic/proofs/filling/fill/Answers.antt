@@ -1,14 +1,16 @@
-use Rattle.std.proofs.Common.{arith, ap, Ok}
+use Rattle.std.proofs.Common.{ℕ, ◌+◌, ◌<◌, arith, sym, ap, subst, Ok}
 use Rattle.sop_model.specs.declared.geo.Geo.{Geo}
 use Rattle.sop_model.specs.Geometry.{count_of}
 use Rattle.sop_model.specs.Values.{kind_of}
 use Rattle.sop_vault.specs.Keyed.{at}
+use Rattle.sop_vault.specs.Vaults.{VaultMap}
 use Rattle.sop_tables.proofs.LoadedLemmas.{count_few}
 use Rattle.sop_basic.specs.Making.{Makes}
 use Rattle.sop_basic.specs.Fillings.{filled_with, filled}
 use Rattle.sop_basic.proofs.MakingLemmas.{same_there, ended_as}
-use Rattle.sop_basic.proofs.FillLemmas.{filling_none, filling_live, filling_there, filling_kind, filling_stopped, filling_more, filling_done}
+use Rattle.sop_basic.proofs.FillLemmas.{filling_none, filling_live, filling_there, filling_kind, filling_stopped, filling_more, filling_less, filling_done, IsFilling}
 use Rattle.sop_basic.proofs.filling.fill.Goals as goal
+use Rattle.sop_basic.proofs.filling.fill.Goals.{then-selected-element+in_ok-fill_one, else-selected-element}
 
 pub loop-element-init : goal.loop-element-init
 loop-element-init c = λ geo there. filling_none (filled_with c.args.filling.now) c.args.class c.args.head c.args.selected.now geo c.args.vault.now c.args.key there
@@ -44,8 +46,19 @@ returns-in_err-fill_one c = λ geo there.
 pub loop-element-preserved : goal.loop-element-preserved
 loop-element-preserved c = λ geo there.
     let count = ap (λ (x : Geo). count_of x c.args.class) (same_there (at c.args.vault.now.geos c.args.key) c.view.result geo c.view.ensures.geo there) in
-    filling_more (filled_with c.args.filling.now) c.args.class c.args.head c.args.selected.now geo c.args.vault.now c.loop-element.vault c.args.key c.loop-element.element c.loop-element.before (c.loop-element.invariant geo there)
-    (let lt = c.loop-element-test.true in let n = c.count-elements.ensures in omega arith) (c.requires.each geo there) c.fill_one.new.vault c.in_ok-fill_one.ensures
+    let lt : c.loop-element.element < count_of geo c.args.class = (let lt = c.loop-element-test.true in let n = c.count-elements.ensures in omega arith) in
+    let values = filled_with c.args.filling.now in
+    let state = λ (now : VaultMap) (before : ℕ). IsFilling values c.args.class c.args.head c.args.selected.now geo c.args.vault.now now c.args.key (c.loop-element.element + 1) before in
+    elim c.if-selected-element.branch [
+      | then-selected-element+in_ok-fill_one w ↦
+          subst (λ now. state now c.if-selected-element.before) (sym w.vault-is) (subst (λ before. state w.fill_one.new.vault before) (sym w.before-is)
+          (filling_more values c.args.class c.args.head c.args.selected.now geo c.args.vault.now c.loop-element.vault c.args.key c.loop-element.element c.loop-element.before (c.loop-element.invariant geo there) lt (c.requires.each geo there)
+          w.if-selected-element.true w.fill_one.new.vault w.in_ok-fill_one.ensures))
+      | else-selected-element w ↦
+          subst (λ now. state now c.if-selected-element.before) (sym w.vault-is) (subst (λ before. state c.loop-element.vault before) (sym w.before-is)
+          (filling_less values c.args.class c.args.head c.args.selected.now geo c.args.vault.now c.loop-element.vault c.args.key c.loop-element.element c.loop-element.before (c.loop-element.invariant geo there) lt (c.requires.each geo there)
+          w.if-selected-element.false))
+    ]
 
 pub returns : goal.returns
 returns c = λ geo there.

@@ -1,4 +1,4 @@
-use Rattle.std.proofs.Common.{ap, sym, ◌∙◌, subst, Ok, Bool, List, length}
+use Rattle.std.proofs.Common.{ap, sym, ◌∙◌, subst, arith, Ok, Bool, List, length}
 use Rattle.sop_model.specs.declared.class.Class.TheVariants.{Point}
 use Rattle.sop_model.specs.declared.geo.Geo.{Geo}
 use Rattle.sop_vault.specs.Keyed.{at}
@@ -10,7 +10,7 @@ use Rattle.sop_basic.specs.Movements.{points_moved}
 use Rattle.sop_basic.specs.Rules.{moving}
 use Rattle.sop_basic.specs.declared.xform.Move.{Move}
 use Rattle.sop_basic.proofs.ParmLemmas.{parm_read}
-use Rattle.sop_basic.proofs.MakingLemmas.{there_is, same_there, prepares_of, prepares_live}
+use Rattle.sop_basic.proofs.MakingLemmas.{there_is, same_there, prepares_of}
 use Rattle.sop_basic.proofs.SelectLemmas.{selected_long}
 use Rattle.sop_basic.proofs.XformLemmas.{xform_is, xform_stops}
 use Rattle.sop_basic.proofs.xform.cook_xform.Goals as goal
@@ -36,10 +36,10 @@ returns c = λ g there.
     let v = c.args.vault.now in
     let parms = c.args.parms.now in
     let text = sym (parm_read parms 2 c.text.result.now c.text.ensures) in
-    let by = c.vector_in-movement-by.ensures ∙ ap vector_in (sym (parm_read parms 0 c.text-movement-by.result.now c.text-movement-by.ensures)) in
-    let scale = c.vector_in-movement-scale.ensures ∙ ap vector_in (sym (parm_read parms 1 c.text-movement-scale.result.now c.text-movement-scale.ensures)) in
+    let by = c.vector_in.ensures ∙ ap vector_in (sym (parm_read parms 0 c.text-2.result.now c.text-2.ensures)) in
+    let scale = c.vector_in-2.ensures ∙ ap vector_in (sym (parm_read parms 1 c.text-3.result.now c.text-3.ensures)) in
     let add = subst (λ o. Added v c.share.new.self c.in_ok-key.key o) there c.in_ok-key.ensures.ok in
-    let move : Move = record { by = c.vector_in-movement-by.result; scale = c.vector_in-movement-scale.result; selected = c.deref.result } in
+    let move : Move = record { by = c.vector_in.result; scale = c.vector_in-2.result; selected = c.deref.result } in
     let outcome = points_moved (moving move) g in
     subst (λ o. Gives v c.finish.new.vault (limited o) c.finish.result)
     (xform_is parms c.text.result.now text move by scale g (c.in-Ok.ensures.ok g there ∙ ap Ok (sym c.deref.ensures.value)))
