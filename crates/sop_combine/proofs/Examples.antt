@@ -11,7 +11,6 @@ use Rattle.sop_net.specs.declared.node_type.NodeType.TheVariants as type
 use Rattle.sop_net.specs.NodeTable.{parms_of, default_parms}
 use Rattle.sop_basic.specs.declared.loaded.LoadedFile.TheVariants.{Missing}
 use Rattle.sop_basic.specs.Outcomes.{Outcome, then_with, limited}
-use Rattle.sop_basic.specs.Selecting.{by_pattern}
 use Rattle.sop_basic.specs.Basic.{basic_geo}
 use Rattle.sop_combine.specs.CopyToPoints.{copytopoints_geo}
 use Rattle.sop_combine.specs.Combine.{combine_geo}
@@ -28,7 +27,7 @@ inputs_of (Ok g ∷ others) = Some g ∷ inputs_of others
 inputs_of (Err f ∷ others) = None ∷ inputs_of others
 
 abbrev basic : NodeType → List (List ℕ × List ℕ) → List Outcome → Outcome
-basic node_type pairs inputs = basic_geo by_pattern (λ name. Missing) node_type (with node_type pairs) (inputs_of inputs)
+basic node_type pairs inputs = basic_geo (λ name. Missing) node_type (with node_type pairs) (inputs_of inputs)
 
 abbrev node : NodeType → List (List ℕ × List ℕ) → List Outcome → Outcome
 node node_type pairs inputs = combine_geo node_type (with node_type pairs) (inputs_of inputs)
