@@ -1,5 +1,5 @@
 -- The faults of basic nodes, type by type.
-use Rattle.std.proofs.Common.{◌≡◌, ℕ, suc, Bool, true, false, List, [], ◌∷◌, length, map, refl, sym, ap, subst, if◌then◌else◌}
+use Rattle.std.proofs.Common.{◌≡◌, ℕ, suc, Bool, true, false, List, [], ◌∷◌, map, refl, if◌then◌else◌}
 use Rattle.std.specs.Prelude.{⊤, ℤ, Option, None, Some, Result, Ok, Err}
 use Rattle.std.specs.List.{range_with_len}
 use Rattle.sop_fixed.specs.declared.fault.NumFault.{NumFault}
@@ -19,7 +19,7 @@ use Rattle.sop_pattern.specs.declared.word.Word.{Word}
 use Rattle.sop_pattern.specs.Words.{pattern_of}
 use Rattle.sop_pattern.specs.Selection.{selection}
 use Rattle.sop_basic.specs.Loads.{FileMap}
-use Rattle.sop_basic.specs.Outcomes.{Outcome, then_with, within_limits, limited, in_range_from, all_in_range}
+use Rattle.sop_basic.specs.Outcomes.{Outcome, then_with, within_limits, in_range_from, all_in_range}
 use Rattle.sop_basic.specs.Selecting.{or_no_group, of_words, by_pattern}
 use Rattle.sop_basic.specs.Shapes.{shape}
 use Rattle.sop_basic.specs.ParmTexts.{count_in, number_in, vector_in, class_in}

@@ -4,7 +4,6 @@ use Rattle.std.specs.Prelude.{All, IfOk, IfSome, IsSome, IsSomeAnd, IsTrue, Opti
 use Rattle.std.specs.Option.{option_and_then}
 use Rattle.std.proofs.lemmas.List.Elements.{All-head, All-tail, All-weaker}
 use Rattle.sop_model.specs.declared.geo.Geo.{Geo}
-use Rattle.sop_model.specs.declared.fault.Fault.{Fault}
 use Rattle.sop_model.specs.declared.fault.CookStop.{CookStop}
 use Rattle.sop_model.specs.declared.fault.CookStop.TheVariants as stop
 use Rattle.sop_model.specs.Geometry.{empty_geo, IsGood, Fits}

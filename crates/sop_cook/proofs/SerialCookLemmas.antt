@@ -1,6 +1,6 @@
 -- The rule of the cook, which speaks of no bound, and what holds of every cook.
-use Rattle.std.proofs.Common.{◌≡◌, refl, ◌∙◌, ap, subst, ℕ, zero, suc, List, [], ◌∷◌, length}
-use Rattle.std.specs.Prelude.{Option, None, Some, Result, Ok, Err, Contains, IsTrue, ⊤}
+use Rattle.std.proofs.Common.{◌≡◌, refl, ◌∙◌, ap, subst, ℕ, zero, suc, List, length}
+use Rattle.std.specs.Prelude.{Option, Some, Result, Ok, Err, Contains, IsTrue}
 use Rattle.sop_model.specs.declared.geo.Geo.{Geo}
 use Rattle.sop_model.specs.declared.fault.Fault.{Fault}
 use Rattle.sop_model.specs.declared.fault.Fault.TheVariants as fault

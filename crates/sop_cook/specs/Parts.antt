@@ -1,5 +1,5 @@
 -- What the parts of a cook ensure, and what a cook keeps of finished nodes. For private contracts.
-use Rattle.std.specs.Prelude.{◌≡◌, ℕ, ⊤, List, [], ◌∷◌, Option, Some, Result, Ok, Err, length, None, slice_get, slice_set, All, IsSome, IsSomeAnd, IsTrue}
+use Rattle.std.specs.Prelude.{◌≡◌, ℕ, ⊤, List, [], ◌∷◌, Option, Some, Result, Ok, Err, length, None, slice_get, slice_set, IsSome, IsSomeAnd, IsTrue}
 use Rattle.sop_model.specs.declared.geo.Geo.{Geo}
 use Rattle.sop_model.specs.declared.fault.Fault as fault
 use Rattle.sop_model.specs.declared.fault.CookStop.{CookStop}
