@@ -15,6 +15,7 @@ import os
 import sys
 
 from second import geometry, nodes, obj
+from second.patterns import BadWord, MissingGroup, selected
 from second.script import Script
 
 FORMS = {"obj": obj.text_of, "list": geometry.listing}
@@ -105,7 +106,28 @@ def differs(top, script, form):
     return "" if (status, out) == (0, wanted) else "another answer"
 
 
+def shown_by(pattern):
+    """What a pattern selects over the ten points of the reference's table, as the table shows it."""
+    groups = {"left": {1, 2, 3}, "left_arm": {3, 4}, "tip": {9}}
+    try:
+        return " ".join(map(str, sorted(selected(pattern, 10, groups)))) or "nothing"
+    except BadWord as word:
+        return f"`BadGroup {word}`"
+    except MissingGroup as word:
+        return f"`NoGroup {word}`"
+
+
+def misshown(top):
+    """The rows of the reference's table of patterns that show something else."""
+    with open(f"{top}/docs/REFERENCE.md", encoding="utf-8") as file:
+        table = file.read().partition("| pattern | selects |\n|---|---|\n")[2].partition("\n\n")[0]
+    rows = [line.strip("| ").split(" | ") for line in table.split("\n")]
+    wrong = [pattern for pattern, shown in rows if shown_by(pattern.strip("`").replace("(empty)", "")) != shown]
+    return "; ".join(wrong) if len(rows) > 1 else "no table"
+
+
 def checks(top):
+    yield "the reference's table of patterns", lambda: misshown(top)
     for table in sorted(glob.glob(f"{top}/tests/cases/*.jsonl")):
         yield f"the rows of {os.path.basename(table)}", lambda table=table: differing(table)
     for expected in sorted(glob.glob(f"{top}/examples/*/expected.*")):
