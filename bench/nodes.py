@@ -1,5 +1,5 @@
 #!/usr/bin/env python3
-"""Measures OBJ beside plain Rust, and how the cost of the basic nodes grows.
+"""Measures OBJ beside plain Rust, and how the cost of nodes grows.
 
     nodes.py [--program FILE] [--most N] [--runs N] [--write]
 
@@ -11,8 +11,9 @@ times its memory, and less than 2 GB.
 
 Nodes: a grid of R times R points, one node over it each, and its listing, at half of N points and at N. A time is less
 that of the cook that only makes and writes what the node begins with. It checks that twice the points take at most 2.3
-times as long, and that a chain of 20 null and switch nodes over the grid holds as much memory as the grid alone, but for
-1 MB. The status is 0 where all of that holds. --write puts the tables of the whole measurement into docs/BENCH.md.
+times as long, and 2.4 times where a group is made, and that a chain of 20 null and switch nodes over the grid holds as
+much memory as the grid alone, but for 1 MB. The status is 0 where all of that holds. --write puts the tables of the whole
+measurement into docs/BENCH.md.
 """
 import argparse
 import filecmp
@@ -32,6 +33,7 @@ MOST_MEMORY_OF_PEER = 2.5
 MOST_BYTES = 2_000_000_000
 VECTORS = 1000  # texture coordinates, and normals: a file of 64 MiB has no room for one a corner
 CORNERS = 0.72  # so many times the points: what a file of 64 MiB holds then
+MOST_TIMES_OF_GROUPS = 2.4
 CHAIN = 20
 CHAIN_BYTES = 1_000_000
 
@@ -107,13 +109,25 @@ def beside(program, peer, name, count, with_corners, runs, lines):
     return problems
 
 
+# the name of a node, its type, and its parameters
+OVER_GRID = (
+    ("xform", "xform", 't "1 2 3" s "0.5 2 1"'),
+    ("attribcreate", "attribcreate", 'name Cd kind vector value "1 0.5 0"'),
+    ("enumerate", "enumerate", "name index"),
+    ("few", "xform", 't "1 2 3" group 0-999999:1000'),
+    ("all", "groupcreate", 'name g group "*"'),
+    ("half", "groupcreate", "name g group 0-999999:2"),
+    ("none", "blast", "group 999999999"),
+    ("faces", "blast", "group 0-999999:2"),
+    ("points", "blast", "class point group 0-999999:2"),
+)
+
+
 def commands(side):
-    """A grid of so many points a side, a node of each type over it, and a chain of nodes that hand it on."""
+    """A grid of so many points a side, nodes over it, and a chain of nodes that hand it on."""
     lines = [f"opadd grid grid\nopparm grid rows {side} cols {side}\n", "opadd merge empty\n"]
-    for node_type, parms in (("xform", 't "1 2 3" s "0.5 2 1"'), ("attribcreate", 'name Cd kind vector value "1 0.5 0"'), ("enumerate", "")):
-        lines.append(f"opadd {node_type} {node_type}\nopwire {node_type} 0 grid\n")
-        if parms:
-            lines.append(f"opparm {node_type} {parms}\n")
+    for name, node_type, parms in OVER_GRID:
+        lines.append(f"opadd {node_type} {name}\nopwire {name} 0 grid\nopparm {name} {parms}\n")
     before = "grid"
     for number in range(CHAIN):
         node_type = ("null", "switch")[number % 2]
@@ -129,6 +143,12 @@ NODES = (
     ("attribcreate, with its colours written", "attribcreate", (), "grid"),
     ("enumerate", "enumerate", (), "grid"),
     ("enumerate, listed", "enumerate", ("--form", "list"), "empty"),
+    ("xform of each thousandth point", "few", (), "grid"),
+    ("groupcreate by `*`", "all", (), "grid"),
+    ("groupcreate by `0-999999:2`", "half", (), "grid"),
+    ("blast of no face", "none", (), "grid"),
+    ("blast of each second face, with the grid", "faces", (), "empty"),
+    ("blast of each second point, with the grid", "points", (), "empty"),
 )
 
 
@@ -156,7 +176,7 @@ def nodes(program, most, runs, lines):
         times = whole / half if half >= SHORTEST / 4 else None
         tell(lines, name, f"{math.isqrt(most // 2) ** 2:,}", f"{half:.3f} s", "")
         tell(lines, name, f"{math.isqrt(most) ** 2:,}", f"{whole:.3f} s", shown(times))
-        if times is not None and times > MOST_TIMES:
+        if times is not None and times > (MOST_TIMES_OF_GROUPS if name.startswith("groupcreate") else MOST_TIMES):
             problems.append(f"{name}: {times:.2f} times as long as half of it")
     tell(lines, f"{CHAIN} null and switch over the grid", f"{math.isqrt(most) ** 2:,}", f"{(chained - alone) / 1e6:.2f} MB more", "")
     if chained - alone > CHAIN_BYTES:
@@ -176,11 +196,11 @@ def write(obj_lines, node_lines, runs):
         obj_lines,
     )
     page.put(
-        "How the basic nodes cost",
+        "How nodes cost",
         "`bench/nodes.py --write` makes this table too. A grid of so many points is made and written; a node over it, with the cook\n"
         f"of the grid taken off; and its listing. Times are seconds of the processor, the median of {runs} runs. The bounds that it\n"
-        f"checks: twice the points take at most {MOST_TIMES} times as long, and a chain of {CHAIN} `null` and `switch` nodes over the grid\n"
-        "holds at most 1 MB more than the grid.",
+        f"checks: twice the points take at most {MOST_TIMES} times as long, and {MOST_TIMES_OF_GROUPS} times where a group is made; and a chain of {CHAIN}\n"
+        "`null` and `switch` nodes over the grid holds at most 1 MB more than the grid.",
         node_lines,
     )
 

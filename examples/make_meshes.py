@@ -5,12 +5,13 @@
 
 Nothing here asks sopcook: what an example gives is put together from the same meshes by the rule for merging, input by
 input, with the point numbers of each input raised by the points before it. The examples with colours, texture
-coordinates, normals or groups stand in models.py. With --check nothing is written: the files in place are compared, and
+coordinates, normals or groups stand in models.py and facades.py. With --check nothing is written: the files in place are compared, and
 the status is 1 where one differs.
 """
 import os
 import sys
 
+import facades
 import models
 from decimals import UNIT, decimal
 
@@ -94,7 +95,7 @@ def point(*texts):
 
 def made():
     """All files, by their path below this folder."""
-    files = models.made()
+    files = {**models.made(), **facades.made()}
 
     left = triangle(0, 0)
     right = triangle(2 * UNIT, UNIT // 2)

@@ -41,18 +41,23 @@ class Model:
             lines.append(" ".join(["f" if closed else "l", *words]))
         return "\n".join(lines) + "\n"
 
-    def listing(self, detail, prim):
-        """The listing, with the lines of attributes of the detail and of primitives."""
+    def listing(self, detail, prim, groups=None):
+        """The listing, with the lines of attributes of the detail and of primitives, and of groups where these aren't those
+        of the primitives by first use."""
         lines = [f"points {len(self.places)}", f"vertices {len(self.corners)}", f"prims {len(self.prims)}"]
         for number, (closed, corners, _) in enumerate(self.prims):
             points = " ".join(str(point) for point, _, _ in corners)
             lines.append(f"prim {number} {'closed' if closed else 'open'} {points}")
         lines += detail + prim + ["attr point vector P", *map(vector, self.places)]
         lines += ["attr point vector Cd", *map(vector, self.colours)]
+        return "\n".join(lines + (self.groups() if groups is None else groups)) + "\n"
+
+    def groups(self):
+        lines = []
         for name in dict.fromkeys(name for _, _, names in self.prims for name in names):
             members = [str(number) for number, (_, _, names) in enumerate(self.prims) if name in names]
             lines.append(" ".join(["group", "prim", name, *members]))
-        return "\n".join(lines) + "\n"
+        return lines
 
 
 # Of a box with its corners in the order of x, then z, then y: the corners of each side, and where the side looks.

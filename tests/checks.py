@@ -4,9 +4,10 @@
     checks.py PROGRAM [--only WORD]
 
 The groups are examples (each gives its expected files: .obj, .list with --form list, .err where it echoes), cases
-(tests/cases/*.jsonl), streams (what can't be written), limits (sizes at their limit and past it, and networks with far
-too many ways upstream), launcher (the script sopcook) and house (the layout of the repository). With --only a check
-runs where its group or name has WORD. The last line is 'N passed, M failed', and the status is 0 where none failed.
+(tests/cases/*.jsonl), second (the second cook, in Python, gives what these two want), streams (what can't be written),
+limits (sizes at their limit and past it, and networks with far too many ways upstream), launcher (the script sopcook)
+and house (the layout of the repository). With --only a check runs where its group or name has WORD. The last line is
+'N passed, M failed', and the status is 0 where none failed.
 """
 import argparse
 import glob
@@ -18,6 +19,7 @@ import tempfile
 
 import house
 import launcher
+import second_cook
 import sizes
 
 TOP = os.path.dirname(os.path.dirname(os.path.realpath(__file__)))
@@ -165,6 +167,7 @@ def main():
     groups = {
         "examples": examples(program),
         "cases": cases(program),
+        "second": second_cook.checks(TOP),
         "streams": streams(program),
         "limits": limits(program),
         "launcher": launcher.checks(TOP),

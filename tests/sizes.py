@@ -69,11 +69,11 @@ def files():
     yield check("a million lines in one, and one behind it", joined, refused(4, b"f: Index 1000003"))
 
 
-def chain(first, parms):
-    """A node, and behind it an attribcreate for each of some parameters, n0 and on, each over the one before it."""
+def chain(first, parms, kind=b"attribcreate"):
+    """A node, and behind it one of a type for each of some parameters, n0 and on, each over the one before it."""
     lines, over = [first], b"f"
     for i, parm in enumerate(parms):
-        lines.append(b"opadd attribcreate n%d\nopparm n%d %s\nopwire n%d 0 %s\n" % (i, i, parm, i, over))
+        lines.append(b"opadd %s n%d\nopparm n%d %s\nopwire n%d 0 %s\n" % (kind, i, i, parm, i, over))
         over = b"n%d" % i
     return b"".join(lines)
 
@@ -107,6 +107,32 @@ def nodes():
     yield "a line of 1,000,000 points", {"s": script}, "n", written(out)
     script = b"opadd grid n\nopparm n rows 1000 cols 1000 sizex 999 sizez 999\n"
     yield "a grid of 1,000 rows and columns", {"s": script}, "n", written(grid(1000))
+
+
+def patterns():
+    """Faults of a group pattern go before Limit; a pattern has at most 1,024 bytes; a class has at most 256 groups."""
+    check = lambda name, parms, wanted, kind: (name, {"s": chain(FILE, parms, kind), "a.obj": points(1)}, f"n{len(parms) - 1}", wanted)
+    names = [b"name a%d" % i for i in range(64)]
+    for word, fault in (b"1x", b"BadGroup 1"), (b"gone", b"NoGroup 1"):
+        parms = [*names[:-1], names[-1] + b" group '0 %s'" % word]
+        yield check(f"64 further attributes of the class point, and the word {word.decode()}", parms, refused(4, b"n63: " + fault), b"attribcreate")
+    for klass in "point", "prim", "vertex":
+        names = [b"class %s name a%d" % (klass.encode(), i) for i in range(257)]
+        yield check(f"256 groups of the class {klass}", names[:-1], written(points(1)), b"groupcreate")
+        yield check(f"257 groups of the class {klass}", names, refused(4, b"n256: Limit"), b"groupcreate")
+        bad = [*names[:-1], names[-1] + b" group !!"]
+        yield check(f"257 groups of the class {klass}, and a bad word", bad, refused(4, b"n256: BadGroup 0"), b"groupcreate")
+    words = lambda last: [b"class point group '%s'" % (b"1 " * 511 + last)]
+    yield check("a pattern of 1,024 bytes", words(b"^0"), written(points(1)), b"blast")
+    yield check("a pattern of 1,024 bytes, whose last word is bad", words(b"1x"), refused(4, b"n0: BadGroup 511"), b"blast")
+
+    line = b"opadd line f\nopparm f points 1000000 dist 999999\n"
+    ends = [b"class point group '1-999998 ^500000'"]
+    out = b"v 0 0 0\nv 0 500000 0\nv 0 999999 0\nl 1 2 3\n"
+    yield "a blast that leaves 3 of 1,000,000 points", {"s": chain(line, ends, b"blast")}, "n0", written(out)
+    lifted = [b"t '1 0 0' group '999999 1000000 999999999999999999'"]
+    out = b"".join(b"v 0 %d 0\n" % i for i in range(999_999)) + b"v 1 999999 0\nl%s\n" % b"".join(b" %d" % i for i in range(1, 1_000_001))
+    yield "the last of 1,000,000 points is moved", {"s": chain(line, lifted, b"xform")}, "n0", written(out)
 
 
 def grid(count):
@@ -159,6 +185,7 @@ def networks():
     yield "1,023 switches in a row", {"s": row_of(b"switch", 32), "a.obj": point}, last, written(point)
     yield "1,023 xforms in a row", {"s": row_of(b"xform", 1), "a.obj": point}, last, written(point)
     yield "1,023 enumerates in a row", {"s": row_of(b"enumerate", 1), "a.obj": point}, last, written(point)
+    yield "1,023 blasts in a row", {"s": row_of(b"blast", 1), "a.obj": point}, last, written(point)
     merges = row_of(b"merge", 32)
     yield "1,023 merges in a row, each wired 32 times", {"s": merges, "a.obj": b""}, last, written(b"")
     yield "1,023 merges in a row over a missing file", {"s": merges}, last, refused(4, b"n0: NoFile")
@@ -168,5 +195,6 @@ def checks():
     yield from geometries()
     yield from files()
     yield from nodes()
+    yield from patterns()
     yield from scripts()
     yield from networks()
