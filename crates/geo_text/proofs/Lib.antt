@@ -29,6 +29,7 @@ pub mod ObjUnrefused
 pub mod ObjVectors
 pub mod ObjNames
 pub mod ObjReferencing
+pub mod ObjNumbers
 mod Splitting
 mod Writing
 pub mod Listed

@@ -16,7 +16,7 @@ use Rattle.geo_text.specs.declared.reference.WordFault.TheVariants as word
 use Rattle.geo_text.specs.declared.groups.Groups.{Groups}
 use Rattle.geo_text.specs.declared.totals.Totals.{Totals}
 use Rattle.geo_text.specs.ObjTaking.{point_taken, prim_taken, group_taken}
-use Rattle.geo_text.specs.ObjStatements.{Statement, Point, Texture, Normal, Shape, Checked, Nothing, place_in, texture_in, normal_in, reference_of, shape_in, mended}
+use Rattle.geo_text.specs.ObjStatements.{Reference, Statement, Point, Texture, Normal, Shape, Checked, Nothing, place_in, texture_in, normal_in, reference_of, shape_in, mended}
 use Rattle.geo_text.specs.ObjStatements as said
 use Rattle.geo_text.specs.ObjMeaning.{Refusal, Number, Index, map_ok, each_of, named_by, vertex_of, piece_of, Piece, PointPiece, ShapePiece, GroupsPiece}
 use Rattle.geo_text.specs.ObjScan.{words_here}
@@ -98,9 +98,13 @@ IsRefused line fault.Number r = r ≡ Err (Number line)
 IsRefused line fault.Index r = r ≡ Err (Index line)
 IsRefused line fault.Memory r = Unit {0}
 
--- the vertex that a word means, in a line of this number
+-- the vertex that a reference means, in a line of this number
+abbrev pub vertex_said : ℕ → Counts → Counts → List Vec3 → List Vec3 → Reference → Result Vertex Refusal
+vertex_said line whole so_far textures normals reference = map_ok (vertex_of textures normals) (named_by line whole so_far reference)
+
+-- the vertex that a word means
 abbrev pub vertex_by : ℕ → Counts → Counts → List Vec3 → List Vec3 → List ℕ → Result Vertex Refusal
-vertex_by line whole so_far textures normals word = map_ok (vertex_of textures normals) (named_by line whole so_far (reference_of word))
+vertex_by line whole so_far textures normals word = vertex_said line whole so_far textures normals (reference_of word)
 
 abbrev pub vertices_by : ℕ → Counts → Counts → List Vec3 → List Vec3 → List (List ℕ) → Result (List Vertex) Refusal
 vertices_by line whole so_far textures normals words = each_of (vertex_by line whole so_far textures normals) words

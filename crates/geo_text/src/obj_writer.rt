@@ -1,6 +1,7 @@
 //! Geometries written as OBJ texts.
 ghost use Rattle.std.specs.Prelude.{◌≡◌, ◌<◌, ◌≤◌, ◌+◌, ◌++◌, ◌&&◌, [], Ok, Option, Some, None, IfOk, OnOk, IfSome, length, take, drop, codes, decimal, if◌then◌else◌, slice_index_or, is_some, not, false, true};
 ghost use Rattle.std.specs.List.{flat_map, items_where_true};
+ghost use Rattle.sop_fixed.specs.Numerals.{decimal_of};
 ghost use Rattle.sop_model.specs.Geometry.{IsReadable, IsGood, Fits, heads_of, rows_of, count_of, empty_row};
 ghost use Rattle.sop_model.specs.Vertices.{corners_of, first_vertex_in, size_of};
 ghost use Rattle.sop_model.specs.Rows.{no_prim};
@@ -13,7 +14,7 @@ ghost use Rattle.geo_text.specs.ObjText.{text_of, spaced_vector, vector_under, c
 
 use crate::zero::zero_vector;
 use itoa::Buffer;
-use sop_fixed::{Vec3, print};
+use sop_fixed::{Real, Vec3, print};
 use sop_model::{Class, GeoView, Kind, ValueRef};
 use std::alloc::{AllocError, Global};
 
@@ -45,15 +46,23 @@ fn vector_at<V: GeoView>(view: &V, class: Class, head: u32, element: u32) -> Vec
     }
 }
 
+/// A space and a number. Zero, which many are, is written at once.
+fn write_real(number: Real, text: &mut Vec<u8>) -> Result<(), AllocError>
+    ensures { OnOk result (text.new.items ≡ text.old.items ++ (codes " " ++ decimal_of number)) }
+{
+    if number.millionths().unsigned_abs() == 0 {
+        return text.extend_from_slice(b" 0");
+    }
+    text.extend_from_slice(b" ")?;
+    print(number, text)
+}
+
 fn write_vector(vector: Vec3, text: &mut Vec<u8>) -> Result<(), AllocError>
     ensures { OnOk result (text.new.items ≡ text.old.items ++ spaced_vector vector) }
 {
-    text.extend_from_slice(b" ")?;
-    print(vector.x, text)?;
-    text.extend_from_slice(b" ")?;
-    print(vector.y, text)?;
-    text.extend_from_slice(b" ")?;
-    print(vector.z, text)
+    write_real(vector.x, text)?;
+    write_real(vector.y, text)?;
+    write_real(vector.z, text)
 }
 
 fn write_colour<V: GeoView>(

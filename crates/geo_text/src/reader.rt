@@ -4,13 +4,13 @@ ghost use Rattle.std.specs.List.{push};
 ghost use Rattle.geo_text.specs.declared.taker.Attributes.{Attributes};
 ghost use Rattle.geo_text.specs.ObjStatements.{statement_under, statement_of, reference_of, place_in, texture_in, normal_in, shape_in, Point, Texture, Normal, Checked};
 ghost use Rattle.geo_text.specs.ObjMeaning.{map_ok, vector_at, each_of, piece_of, counted_in, no_counts, NoPiece};
-ghost use Rattle.geo_text.specs.ObjReferences.{told, AreCounts, AreSoFar};
+ghost use Rattle.geo_text.specs.ObjReferences.{told, reference_said, AreCounts, AreSoFar};
 ghost use Rattle.geo_text.specs.ObjSurvey.{key_of};
 ghost use Rattle.geo_text.specs.ObjScan.{words_here};
-ghost use Rattle.geo_text.specs.ObjRun.{fault_of, statement_as, vertex_by, vertices_by, IsRefused, Taking, taken_by, taking_seen, groups_seen, flags_seen};
+ghost use Rattle.geo_text.specs.ObjRun.{fault_of, statement_as, vertex_said, vertices_by, IsRefused, Taking, taken_by, taking_seen, groups_seen, flags_seen};
 
 use crate::groups::Groups;
-use crate::reference::{Counts, WordFault, read_reference};
+use crate::reference::{Counts, ReferenceWord, WordFault, next_reference, read_reference};
 use crate::scan::next_word;
 use crate::taker::{ObjTaker, Vertex};
 use crate::totals::Totals;
@@ -90,10 +90,14 @@ fn vector_at(vectors: &[Vec3], element: Option<usize>) -> Vec3
 }
 
 /// The vertex that a word means, where so many elements stand before its line.
-fn read_vertex(word: &[u8], totals: &Totals, so_far: &Counts) -> Result<Vertex, WordFault>
+fn read_vertex(
+    word: ReferenceWord<'_>,
+    totals: &Totals,
+    so_far: &Counts,
+) -> Result<Vertex, WordFault>
     requires totals { AreCounts totals.now.counts }
     requires so_far { AreSoFar totals.now.counts so_far.now }
-    ensures { (line : ℕ) → told line result ≡ vertex_by line totals.now.counts so_far.now totals.now.textures.items totals.now.normals.items word.now }
+    ensures { (line : ℕ) → told line result ≡ vertex_said line totals.now.counts so_far.now totals.now.textures.items totals.now.normals.items (reference_said word.entry) }
 {
     let named = read_reference(word, &totals.counts, so_far)?;
     Ok(Vertex {
@@ -105,15 +109,15 @@ fn read_vertex(word: &[u8], totals: &Totals, so_far: &Counts) -> Result<Vertex, 
 
 /// Puts the vertex that a word means behind others.
 fn add_vertex(
-    word: &[u8],
+    word: ReferenceWord<'_>,
     totals: &Totals,
     so_far: &Counts,
     vertices: &mut Vec<Vertex>,
 ) -> Result<(), LineFault>
     requires totals { AreCounts totals.now.counts }
     requires so_far { AreSoFar totals.now.counts so_far.now }
-    ensures ok { OnOk result ((line : ℕ) → map_ok (push vertices.old.items) (vertex_by line totals.now.counts so_far.now totals.now.textures.items totals.now.normals.items word.now) ≡ Ok vertices.new.items) }
-    ensures err { IfErr result (λ f. (line : ℕ) → IsRefused line f (vertex_by line totals.now.counts so_far.now totals.now.textures.items totals.now.normals.items word.now)) }
+    ensures ok { OnOk result ((line : ℕ) → map_ok (push vertices.old.items) (vertex_said line totals.now.counts so_far.now totals.now.textures.items totals.now.normals.items (reference_said word.entry)) ≡ Ok vertices.new.items) }
+    ensures err { IfErr result (λ f. (line : ℕ) → IsRefused line f (vertex_said line totals.now.counts so_far.now totals.now.textures.items totals.now.normals.items (reference_said word.entry))) }
 {
     match read_vertex(word, totals, so_far) {
         Ok(vertex) => match vertices.push(vertex) {
@@ -138,7 +142,7 @@ fn read_vertices(
 {
     vertices.clear();
     let mut rest = words;
-    while let Some((word, more)) = next_word(rest) {
+    while let Some((word, more)) = next_reference(rest) {
         add_vertex(word, totals, so_far, vertices)?;
         rest = more;
     }

@@ -1,11 +1,13 @@
 // References to points, texture coordinates and normals.
-ghost use Rattle.std.specs.Prelude.{◌≡◌, ℕ, ◌<◌, ◌≤◌, ◌∷◌, ◌==◌, ◌-◌, IfOk, Some, None, if◌then◌else◌, min, nat_lt, nat_le, ◌&&◌, position};
-ghost use Rattle.sop_fixed.specs.Numerals.{has_minus, after_sign, is_some_digits, number_of};
+ghost use Rattle.std.specs.Prelude.{◌≡◌, ℕ, ◌<◌, ◌≤◌, ◌∷◌, ◌==◌, ◌-◌, IfOk, IfSome, Some, None, true, length, take, if◌then◌else◌, min, nat_lt, nat_le, ◌&&◌, position};
+ghost use Rattle.sop_fixed.specs.Numerals.{has_minus, after_sign, are_digits, is_some_digits, number_of};
 ghost use Rattle.sop_model.specs.Limits.{most_points};
 ghost use Rattle.geo_text.specs.ObjStatements.{part_of, reference_of};
 ghost use Rattle.geo_text.specs.ObjMeaning.{within, needed, optional, named_by};
-ghost use Rattle.geo_text.specs.ObjSurvey.{has_texture, has_normal};
-ghost use Rattle.geo_text.specs.ObjReferences.{told, slash_parts, parts_left, IsNextPart, goes_on, reference_seen, AreCounts, AreSoFar};
+ghost use Rattle.geo_text.specs.ObjSurvey.{is_there};
+ghost use Rattle.geo_text.specs.ObjReferences.{told, slash_parts, parts_left, IsNextPart, goes_on, reference_seen, said_number, reference_said, IsNextReference, SaysNumber, AreCounts, AreSoFar};
+
+use crate::scan::{is_apart, next_word};
 
 /// Why a word of a line is refused.
 #[derive(Clone, Copy, Debug, PartialEq, Eq)]
@@ -35,6 +37,15 @@ pub(crate) struct Named {
     pub(crate) normal: Option<usize>,
 }
 
+/// A word of a line that is read as a reference.
+#[derive(Clone, Copy)]
+pub(crate) enum ReferenceWord<'a> {
+    /// A word that only says the number of a point, counted from 1.
+    Number(u64),
+    /// Any word.
+    Word(&'a [u8]),
+}
+
 /// The parts of a reference; those that aren't there are empty.
 #[derive(Clone, Copy)]
 struct Parts<'a> {
@@ -43,6 +54,51 @@ struct Parts<'a> {
     normal: &'a [u8],
     /// Whether a fourth part stands behind them.
     is_long: bool,
+}
+
+/// The number that digits at the start of a text say, and how many these are. They end where the number is long.
+fn leading_number(text: &[u8]) -> (u64, usize)
+    ensures within { result.1 ≤ length text.now }
+    ensures digits { are_digits (take result.1 text.now) ≡ true }
+    ensures number { result.0 ≡ number_of (take result.1 text.now) }
+{
+    let mut number = 0_u64;
+    let mut len = 0;
+    while number < 100_000_000 && len < text.len() && text[len].is_ascii_digit() {
+        number = number * 10 + u64::from(text[len] - b'0');
+        len += 1;
+    }
+    (number, len)
+}
+
+/// The number of a word of few digits that stands behind one space, and what stands behind the word. None says nothing of the text.
+fn next_number(text: &[u8]) -> Option<(u64, &[u8])>
+    ensures number { IfSome result (λ next. SaysNumber text.now next.0 next.1.now) }
+    ensures shorter { IfSome result (λ next. length next.1.now < length text.now) }
+{
+    let [b' ', word @ ..] = text else {
+        return None;
+    };
+    let (number, len) = leading_number(word);
+    let rest = &word[len..];
+    if len > 0 && is_apart(rest) {
+        Some((number, rest))
+    } else {
+        None
+    }
+}
+
+/// The next word of a line of references, and what stands behind it. None where the line ends, or a comment begins.
+#[inline(always)]
+pub(crate) fn next_reference(text: &[u8]) -> Option<(ReferenceWord<'_>, &[u8])>
+    ensures words { IsNextReference result text.now }
+    ensures shorter { IfSome result (λ next. length next.1.now < length text.now) }
+{
+    if let Some((number, rest)) = next_number(text) {
+        return Some((ReferenceWord::Number(number), rest));
+    }
+    let (word, rest) = next_word(text)?;
+    Some((ReferenceWord::Word(word), rest))
 }
 
 fn slash_at(text: &[u8]) -> Option<usize>
@@ -179,13 +235,25 @@ fn optional(part: &[u8], whole: usize, so_far: usize) -> Result<Option<usize>, W
     Ok(Some(needed(part, whole, so_far)?))
 }
 
+/// The elements of a word that only says the number of a point.
+fn named_point(number: u64, whole: &Counts) -> Result<Named, WordFault>
+    requires { AreCounts whole.now }
+    ensures point { IfOk result (λ n. n.point < most_points) }
+    ensures value { (line : ℕ) (so_far : Counts) → told line result ≡ named_by line whole.now so_far (said_number number) }
+{
+    match ahead(number, whole.points) {
+        Some(point) => Ok(Named {
+            point,
+            texture: None,
+            normal: None,
+        }),
+        None => Err(WordFault::Index),
+    }
+}
+
 /// The elements that a word names, where there are `whole` in the text, and `so_far` before the line. The first part that
 /// isn't a number or names no element decides.
-pub(crate) fn read_reference(
-    word: &[u8],
-    whole: &Counts,
-    so_far: &Counts,
-) -> Result<Named, WordFault>
+fn read_parts(word: &[u8], whole: &Counts, so_far: &Counts) -> Result<Named, WordFault>
     requires whole { AreCounts whole.now }
     requires so_far { AreSoFar whole.now so_far.now }
     ensures point { IfOk result (λ n. n.point < most_points) }
@@ -205,11 +273,31 @@ pub(crate) fn read_reference(
     })
 }
 
-/// Whether a reference has a texture coordinate, and whether it has a normal.
-pub(crate) fn parts_behind(word: &[u8]) -> (bool, bool)
-    ensures texture { result.0 ≡ has_texture word.now }
-    ensures normal { result.1 ≡ has_normal word.now }
+/// The elements that a word of a line names, as `read_parts` tells them.
+pub(crate) fn read_reference(
+    word: ReferenceWord<'_>,
+    whole: &Counts,
+    so_far: &Counts,
+) -> Result<Named, WordFault>
+    requires whole { AreCounts whole.now }
+    requires so_far { AreSoFar whole.now so_far.now }
+    ensures point { IfOk result (λ n. n.point < most_points) }
+    ensures value { (line : ℕ) → told line result ≡ named_by line whole.now so_far.now (reference_said word.entry) }
 {
+    match word {
+        ReferenceWord::Number(number) => named_point(number, whole),
+        ReferenceWord::Word(word) => read_parts(word, whole, so_far),
+    }
+}
+
+/// Whether a reference has a texture coordinate, and whether it has a normal.
+pub(crate) fn parts_behind(word: ReferenceWord<'_>) -> (bool, bool)
+    ensures texture { result.0 ≡ is_there (reference_said word.entry).texture }
+    ensures normal { result.1 ≡ is_there (reference_said word.entry).normal }
+{
+    let ReferenceWord::Word(word) = word else {
+        return (false, false);
+    };
     let parts = split_parts(word);
     (!parts.texture.is_empty(), !parts.normal.is_empty())
 }

@@ -83,7 +83,7 @@ fn skip_blanks(text: &[u8]) -> &[u8]
 }
 
 /// Whether no word goes on into a text.
-fn is_apart(text: &[u8]) -> bool
+pub(crate) fn is_apart(text: &[u8]) -> bool
     ensures { result ≡ is_apart (joined text.now) }
 {
     match text {

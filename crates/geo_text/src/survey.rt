@@ -4,11 +4,12 @@ ghost use Rattle.std.specs.Prelude.{◌≡◌, ◌++◌, ◌∷◌, [], false, �
 ghost use Rattle.std.specs.List.{list_any};
 ghost use Rattle.geo_text.specs.ObjLines.{joined};
 ghost use Rattle.geo_text.specs.ObjScan.{words_here};
-ghost use Rattle.geo_text.specs.ObjSurvey.{Seen, nothing_seen, has_texture, has_normal, seen_as, point_seen, shape_seen, line_seen, all_seen, worded, survey_seen, is_past, IsPast};
+ghost use Rattle.geo_text.specs.ObjReferences.{reference_said};
+ghost use Rattle.geo_text.specs.ObjSurvey.{Seen, nothing_seen, is_there, has_texture, has_normal, seen_as, point_seen, shape_seen, line_seen, all_seen, worded, survey_seen, is_past, IsPast};
 
 use crate::obj_fault::ObjFault;
 use crate::reader::{Keyword, keyword_of};
-use crate::reference::{Counts, parts_behind};
+use crate::reference::{Counts, ReferenceWord, next_reference, parts_behind};
 use crate::scan::{next_line, next_word};
 use crate::taker::{Attributes, Room};
 use crate::totals::Totals;
@@ -45,11 +46,11 @@ struct References {
 
 impl References {
     /// With one more.
-    fn with(self, word: &[u8]) -> References
+    fn with(self, word: ReferenceWord<'_>) -> References
         requires { self.count < usize.MAX }
         ensures count { result.count ≡ self.count + 1 }
-        ensures texture { result.texture ≡ (self.texture || has_texture word.now) }
-        ensures normal { result.normal ≡ (self.normal || has_normal word.now) }
+        ensures texture { result.texture ≡ (self.texture || is_there (reference_said word.entry).texture) }
+        ensures normal { result.normal ≡ (self.normal || is_there (reference_said word.entry).normal) }
     {
         let count = self.count + 1;
         if self.texture && self.normal {
@@ -76,7 +77,7 @@ fn references_in(words: &[u8], has: Attributes) -> References
         normal: has.normal,
     };
     let mut rest = words;
-    while let Some((word, more)) = next_word(rest) {
+    while let Some((word, more)) = next_reference(rest) {
         references = references.with(word);
         rest = more;
     }
