@@ -103,6 +103,6 @@ number_here text (b ∷ word) (suc len) number e some within h n apart =
     subst (λ t. SaysNumber t number (drop (suc len) (b ∷ word))) (ap (λ l. 32 ∷ l) kept ∙ sym e)
     (says_number (take (suc len) (b ∷ word)) (drop (suc len) (b ∷ word)) number (omega arith) h n apart)
 
-pub space_first : (text : List ℕ) → 1 ≤ length text → get_or text 0 0 ≡ 32 → text ≡ 32 ∷ take (length text - 1) (drop 1 text)
-space_first [] some space = absurd (omega (arith, some))
-space_first (b ∷ text) some space = ap (λ x. x ∷ text) space ∙ ap (λ l. 32 ∷ l) (sym (take_rest (b ∷ text) 1))
+pub first_byte : (text : List ℕ) (first : ℕ) → 1 ≤ length text → get_or text 0 0 ≡ first → text ≡ first ∷ take (length text - 1) (drop 1 text)
+first_byte [] first some is = absurd (omega (arith, some))
+first_byte (b ∷ text) first some is = ap (λ x. x ∷ text) is ∙ ap (λ l. first ∷ l) (sym (take_rest (b ∷ text) 1))
