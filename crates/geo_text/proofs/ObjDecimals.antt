@@ -1,17 +1,15 @@
 -- Plain decimals at the start of a text: their values, and that they are words.
-use Rattle.std.proofs.Common.{◌≡◌, ◌≢◌, ℕ, ℤ, zero, suc, ◌+◌, ◌-◌, ◌*◌, ◌^◌, ◌<◌, ◌≤◌, List, [], ◌∷◌, ◌++◌, length, get_or, take, drop, append_assoc, append-nil, Bool, true, false, Ok, refl, sym, ap, ◌∙◌, subst, arith, inl, inr}
-use Rattle.std.specs.Prelude.{◌==◌, ◌&&◌, nat_lt}
+use Rattle.std.proofs.Common.{◌≡◌, ◌≢◌, ℕ, ℤ, zero, suc, ◌+◌, ◌-◌, ◌*◌, ◌^◌, ◌<◌, ◌≤◌, List, [], ◌∷◌, ◌++◌, length, take, drop, append_assoc, append-nil, Bool, true, false, Ok, refl, sym, ap, ◌∙◌, subst, arith}
+use Rattle.std.specs.Prelude.{◌==◌, nat_lt}
 use Rattle.std.specs.List.{list_all, position_or_len}
 use Rattle.std.specs.Char.{is_ascii_digit}
 use Rattle.std.proofs.lemmas.Bool.{and_parts, and_from}
 use Rattle.std.proofs.lemmas.Bool.Decides.{nat_tests}
-use Rattle.std.proofs.lemmas.Grind.{common_steps}
-use Rattle.std.proofs.lemmas.List.{take_rest, take-append-drop}
+use Rattle.std.proofs.lemmas.List.{take-append-drop}
 use Rattle.std.proofs.lemmas.List.Folds.{list_all-append}
 use Rattle.std.proofs.lemmas.Nat.{pow-add}
-use Rattle.std.proofs.Math.Nat.{pow-le-pow_right, mul-le-mul}
 use Rattle.sop_fixed.specs.Numbers.{signed, nearest}
-use Rattle.sop_fixed.specs.Numerals.{are_digits, is_some_digits, digits_of, whole_of, fraction_of, number_of, after_sign, has_minus, is_sign, is_point, sign_text, in_range, value_of}
+use Rattle.sop_fixed.specs.Numerals.{are_digits, is_some_digits, digits_of, whole_of, fraction_of, number_of, is_sign, is_point, sign_text, in_range, value_of}
 use Rattle.sop_fixed.proofs.NumberOf.{number_of-append}
 use Rattle.sop_fixed.proofs.Rounding.{nearest_whole}
 use Rattle.sop_fixed.proofs.Plain.{value_of_plain}
@@ -65,7 +63,7 @@ plain_size (b ∷ digits) places text size some h all few whole fraction inside 
     let both : digits_of (b ∷ digits ++ text) ≡ b ∷ digits ++ places = ap (λ l. l ++ fraction_of (b ∷ digits ++ text)) front ∙ ap (λ l. b ∷ digits ++ l) behind in
     let long : nat_lt 0 (length (b ∷ digits ++ places)) ≡ true = grind (arith, nat_tests) in
     let number : size ≡ number_of (b ∷ digits ++ places) * 10 ^ (6 - length places) =
-        e ∙ raised (number_of (b ∷ digits)) (number_of places) (length places) few ∙ ap (λ n. n * 10 ^ (6 - length places)) (sym (number_of-append (b ∷ digits) places)) in
+    e ∙ raised (number_of (b ∷ digits)) (number_of places) (length places) few ∙ ap (λ n. n * 10 ^ (6 - length places)) (sym (number_of-append (b ∷ digits) places)) in
     record {
       some = ap is_some_digits both ∙ and_from _ _ long (list_all-append is_ascii_digit (b ∷ digits) places ∙ and_from _ _ h all);
       says = number ∙ sym (nearest_whole (number_of (b ∷ digits ++ places)) 6 (length places) few)
@@ -99,9 +97,11 @@ places_lead text places len count size whole fraction some h w point all f few e
     let digits = take len text in
     let front = take count places in
     let is : size ≡ number_of digits * 1000000 + number_of front * 10 ^ (6 - length front) = e ∙ ap (λ n. n * 1000000 + fraction * 10 ^ (6 - length front)) w ∙ ap (λ n. number_of digits * 1000000 + n * 10 ^ (6 - length front)) f in
-    let parts : digits ++ 46 ∷ (front ++ drop count places) ≡ text = ap (λ l. digits ++ 46 ∷ l) (take-append-drop count places) ∙ ap (λ l. digits ++ l) (sym point) ∙ take-append-drop len text in
-    (digits ++ 46 ∷ front, sym parts ∙ sym (append_assoc digits (46 ∷ front) (drop count places)),
-    plain_size digits front (46 ∷ front) size some h all few refl refl (digits_inside front all) is)
+    let parts : digits ++ 46 ∷ (front ++ drop count places) ≡ text = ap (λ l. digits ++ 46 ∷ l) (take-append-drop count places) ∙ ap (λ l. digits ++ l) (sym point) ∙ take-append-drop len text in (
+      digits ++ 46 ∷ front,
+      sym parts ∙ sym (append_assoc digits (46 ∷ front) (drop count places)),
+      plain_size digits front (46 ∷ front) size some h all few refl refl (digits_inside front all) is,
+    )
 
 -- ---- they are words
 inside_joined : (word rest : List ℕ) → list_all is_number_byte word ≡ true → joined (word ++ rest) ≡ word ++ joined rest

@@ -1,15 +1,15 @@
 -- References that only say the number of a point.
-use Rattle.std.proofs.Common.{◌≡◌, ◌≢◌, ℕ, zero, suc, ◌+◌, ◌-◌, ◌*◌, ◌^◌, ◌<◌, ◌≤◌, List, [], ◌∷◌, ◌++◌, length, get_or, take, drop, Bool, true, false, refl, sym, ap, ◌∙◌, subst, arith, inl, inr}
+use Rattle.std.proofs.Common.{◌≡◌, ℕ, zero, suc, ◌+◌, ◌-◌, ◌*◌, ◌<◌, ◌≤◌, List, [], ◌∷◌, ◌++◌, length, get_or, take, drop, true, false, refl, sym, ap, ◌∙◌, subst, arith}
 use Rattle.std.specs.Prelude.{◌==◌, ◌&&◌, nat_lt, if◌then◌else◌}
-use Rattle.std.specs.List.{slice_split, list_all}
+use Rattle.std.specs.List.{slice_split}
 use Rattle.std.specs.Char.{is_ascii_digit}
-use Rattle.std.proofs.lemmas.Bool.{cases_Bool, and_parts}
+use Rattle.std.proofs.lemmas.Bool.{and_parts}
 use Rattle.std.proofs.lemmas.Bool.Decides.{nat_tests}
 use Rattle.std.proofs.lemmas.List.{take_rest, take-append-drop}
-use Rattle.sop_fixed.specs.Numerals.{are_digits, is_some_digits, number_of, after_sign, has_minus, is_sign}
+use Rattle.sop_fixed.specs.Numerals.{are_digits, is_some_digits, number_of, after_sign, is_sign}
 use Rattle.sop_fixed.proofs.NumberOf.{number_of-append}
 use Rattle.geo_text.specs.ObjLines.{joined, before_comment}
-use Rattle.geo_text.specs.ObjScan.{words_here, is_word, is_apart, begins_word, ends_word}
+use Rattle.geo_text.specs.ObjScan.{is_word, is_apart, begins_word, ends_word}
 use Rattle.geo_text.specs.ObjStatements.{Ahead, Absent, Wrong, counted, part_of, reference_of, reference_from, without_empty_end}
 use Rattle.geo_text.specs.ObjReferences.{said_number, SaysNumber}
 use Rattle.geo_text.proofs.ObjScanning.{word_here, blank_before}
