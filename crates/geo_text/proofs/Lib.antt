@@ -30,6 +30,7 @@ pub mod ObjVectors
 pub mod ObjNames
 pub mod ObjReferencing
 pub mod ObjNumbers
+pub mod ObjDecimals
 mod Splitting
 mod Writing
 pub mod Listed

@@ -9,13 +9,12 @@ use Rattle.std.proofs.lemmas.List.{length-map, get_or_default, take-take}
 use Rattle.std.proofs.lemmas.List.Sums.{sum_by-take-le}
 use Rattle.std.proofs.lemmas.List.Elements.{All-nil, All-get_or}
 use Rattle.std.proofs.lemmas.List.FromFn.{length-map-range_with_len}
-use Rattle.std.proofs.lemmas.Option.{slice_get-map, slice_get-get_or, get_or_from_slice_get, slice_get_read}
+use Rattle.std.proofs.lemmas.Option.{slice_get-map, get_or_from_slice_get, slice_get_read}
 use Rattle.sop_fixed.specs.declared.vec3.Vec3.{Vec3}
 use Rattle.sop_model.specs.declared.class.Class.{Class}
 use Rattle.sop_model.specs.declared.class.Class.TheVariants.{Detail, Prim, Point, Vertex}
 use Rattle.sop_model.specs.declared.geo.Geo.{Geo}
 use Rattle.sop_model.specs.declared.geo.Row.{Row}
-use Rattle.sop_model.specs.declared.geo.Corner.{Corner}
 use Rattle.sop_model.specs.declared.value.Value.TheVariants as value
 use Rattle.sop_model.specs.Values.{zero_vector}
 use Rattle.sop_model.specs.Vertices.{corners_of, ends_of, first_vertex_in, size_of}
@@ -23,10 +22,9 @@ use Rattle.sop_model.specs.Limits.{most_heads, most_groups}
 use Rattle.sop_model.specs.Geometry.{heads_of, rows_of, count_of, value_at, flag_at, position_head, IsNamed, IsRowOf, IsSound, IsWithin, IsReadable}
 use Rattle.sop_model.proofs.VerticesLemmas.{length-ends_of, get_or-ends_of}
 use Rattle.sop_model.proofs.LimitsLemmas.{IsWithin-from, within_heads, within_groups}
-use Rattle.geo_text.specs.declared.taker.Attributes.{Attributes}
 use Rattle.geo_text.specs.declared.columns.Outline.{Outline}
 use Rattle.geo_text.specs.ObjTaking.{value_if, head_if}
-use Rattle.geo_text.specs.ObjColumns.{ColumnLists, point_in, points_in, corner_in, flags_among, outlined_prim, outlined_prims, columns_geo, last_end, Rise, AreComplete, frame_of}
+use Rattle.geo_text.specs.ObjColumns.{ColumnLists, point_in, corner_in, outlined_prim, columns_geo, last_end, AreComplete, frame_of}
 use Rattle.geo_text.proofs.ObjColumnLists.{slice_get-map-range, ends_of-outlined_prims, corners_of-outlined_prims, outlined_prims-get}
 
 -- THE FRAME

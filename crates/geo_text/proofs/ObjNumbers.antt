@@ -1,15 +1,15 @@
 -- References that only say the number of a point.
-use Rattle.std.proofs.Common.{◌≡◌, ◌≢◌, ℕ, zero, suc, ◌+◌, ◌-◌, ◌*◌, ◌^◌, ◌<◌, ◌≤◌, List, [], ◌∷◌, ◌++◌, length, get_or, take, drop, Bool, true, false, refl, sym, ap, ◌∙◌, subst, arith, inl, inr}
+use Rattle.std.proofs.Common.{◌≡◌, ℕ, zero, suc, ◌+◌, ◌-◌, ◌*◌, ◌<◌, ◌≤◌, List, [], ◌∷◌, ◌++◌, length, get_or, take, drop, true, false, refl, sym, ap, ◌∙◌, subst, arith}
 use Rattle.std.specs.Prelude.{◌==◌, ◌&&◌, nat_lt, if◌then◌else◌}
-use Rattle.std.specs.List.{slice_split, list_all}
+use Rattle.std.specs.List.{slice_split}
 use Rattle.std.specs.Char.{is_ascii_digit}
-use Rattle.std.proofs.lemmas.Bool.{cases_Bool, and_parts}
+use Rattle.std.proofs.lemmas.Bool.{and_parts}
 use Rattle.std.proofs.lemmas.Bool.Decides.{nat_tests}
 use Rattle.std.proofs.lemmas.List.{take_rest, take-append-drop}
-use Rattle.sop_fixed.specs.Numerals.{are_digits, is_some_digits, number_of, after_sign, has_minus, is_sign}
+use Rattle.sop_fixed.specs.Numerals.{are_digits, is_some_digits, number_of, after_sign, is_sign}
 use Rattle.sop_fixed.proofs.NumberOf.{number_of-append}
 use Rattle.geo_text.specs.ObjLines.{joined, before_comment}
-use Rattle.geo_text.specs.ObjScan.{words_here, is_word, is_apart, begins_word, ends_word}
+use Rattle.geo_text.specs.ObjScan.{is_word, is_apart, begins_word, ends_word}
 use Rattle.geo_text.specs.ObjStatements.{Ahead, Absent, Wrong, counted, part_of, reference_of, reference_from, without_empty_end}
 use Rattle.geo_text.specs.ObjReferences.{said_number, SaysNumber}
 use Rattle.geo_text.proofs.ObjScanning.{word_here, blank_before}
@@ -103,6 +103,6 @@ number_here text (b ∷ word) (suc len) number e some within h n apart =
     subst (λ t. SaysNumber t number (drop (suc len) (b ∷ word))) (ap (λ l. 32 ∷ l) kept ∙ sym e)
     (says_number (take (suc len) (b ∷ word)) (drop (suc len) (b ∷ word)) number (omega arith) h n apart)
 
-pub space_first : (text : List ℕ) → 1 ≤ length text → get_or text 0 0 ≡ 32 → text ≡ 32 ∷ take (length text - 1) (drop 1 text)
-space_first [] some space = absurd (omega (arith, some))
-space_first (b ∷ text) some space = ap (λ x. x ∷ text) space ∙ ap (λ l. 32 ∷ l) (sym (take_rest (b ∷ text) 1))
+pub first_byte : (text : List ℕ) (first : ℕ) → 1 ≤ length text → get_or text 0 0 ≡ first → text ≡ first ∷ take (length text - 1) (drop 1 text)
+first_byte [] first some is = absurd (omega (arith, some))
+first_byte (b ∷ text) first some is = ap (λ x. x ∷ text) is ∙ ap (λ l. first ∷ l) (sym (take_rest (b ∷ text) 1))

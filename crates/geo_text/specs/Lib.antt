@@ -16,3 +16,4 @@ pub mod ObjFlags
 pub mod ObjWords
 pub mod ObjPieces
 pub mod ObjRange
+pub mod ObjDecimals

@@ -7,6 +7,7 @@ mod frame;
 mod geo_maker;
 mod group_name;
 mod groups;
+mod leading;
 mod listing;
 mod obj;
 mod obj_fault;

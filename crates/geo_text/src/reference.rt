@@ -7,6 +7,7 @@ ghost use Rattle.geo_text.specs.ObjMeaning.{within, needed, optional, named_by};
 ghost use Rattle.geo_text.specs.ObjSurvey.{is_there};
 ghost use Rattle.geo_text.specs.ObjReferences.{told, slash_parts, parts_left, IsNextPart, goes_on, reference_seen, said_number, reference_said, IsNextReference, SaysNumber, AreCounts, AreSoFar};
 
+use crate::leading::leading_number;
 use crate::scan::{is_apart, next_word};
 
 /// Why a word of a line is refused.
@@ -54,21 +55,6 @@ struct Parts<'a> {
     normal: &'a [u8],
     /// Whether a fourth part stands behind them.
     is_long: bool,
-}
-
-/// The number that digits at the start of a text say, and how many these are. They end where the number is long.
-fn leading_number(text: &[u8]) -> (u64, usize)
-    ensures within { result.1 ≤ length text.now }
-    ensures digits { are_digits (take result.1 text.now) ≡ true }
-    ensures number { result.0 ≡ number_of (take result.1 text.now) }
-{
-    let mut number = 0_u64;
-    let mut len = 0;
-    while number < 100_000_000 && len < text.len() && text[len].is_ascii_digit() {
-        number = number * 10 + u64::from(text[len] - b'0');
-        len += 1;
-    }
-    (number, len)
 }
 
 /// The number of a word of few digits that stands behind one space, and what stands behind the word. None says nothing of the text.

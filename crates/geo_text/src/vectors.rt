@@ -1,8 +1,10 @@
 // The numerals of a line: points with their colours, texture coordinates and normals.
-ghost use Rattle.std.specs.Prelude.{◌≡◌, ◌∷◌, ◌<◌, length, nat_le, option_map, MatchOption};
+ghost use Rattle.std.specs.Prelude.{◌≡◌, ◌∷◌, ◌<◌, length, nat_le, option_map, MatchOption, IfSome};
 ghost use Rattle.geo_text.specs.ObjStatements.{vector_in, place_in, texture_in, normal_in};
+ghost use Rattle.geo_text.specs.ObjDecimals.{SaysVector, IsFirstVector};
 ghost use Rattle.geo_text.specs.ObjScan.{words_here, place_from, IsNextOrZero};
 
+use crate::leading::next_decimal;
 use crate::scan::next_word;
 use sop_fixed::{Vec3, read_numeral};
 
@@ -45,13 +47,42 @@ fn vector_in(x: &[u8], y: &[u8], z: &[u8]) -> Option<Vec3>
     })
 }
 
+/// The vector of three plain decimals, and what stands behind them. None says nothing of the text.
+fn next_vector(text: &[u8]) -> Option<(Vec3, &[u8])>
+    ensures { IfSome result (λ next. SaysVector text.now next.0 next.1.now) }
+{
+    let Some((x, rest)) = next_decimal(text) else {
+        return None;
+    };
+    let Some((y, rest)) = next_decimal(rest) else {
+        return None;
+    };
+    let Some((z, rest)) = next_decimal(rest) else {
+        return None;
+    };
+    Some((Vec3 { x, y, z }, rest))
+}
+
+/// The vector that three words say, and what stands behind them.
+fn first_vector(text: &[u8]) -> Option<(Vec3, &[u8])>
+    ensures { IsFirstVector result text.now }
+{
+    if let Some(next) = next_vector(text) {
+        return Some(next);
+    }
+    let three = next_three(text)?;
+    let vector = vector_in(three.x, three.y, three.z)?;
+    Some((vector, three.rest))
+}
+
 /// The place and colour that the words behind `v` say, where they are numerals.
 pub(crate) fn place_in(words: &[u8]) -> Option<(Vec3, Option<Vec3>)>
     ensures { option_map place_from result ≡ place_in (words_here words.now) }
 {
-    let three = next_three(words)?;
-    let place = vector_in(three.x, three.y, three.z)?;
-    match next_three(three.rest) {
+    let Some((place, rest)) = first_vector(words) else {
+        return None;
+    };
+    match next_three(rest) {
         None => Some((place, None)),
         Some(next) => Some((place, Some(vector_in(next.x, next.y, next.z)?))),
     }

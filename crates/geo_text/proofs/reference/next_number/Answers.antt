@@ -3,7 +3,7 @@ use Rattle.std.proofs.lemmas.List.{take_rest}
 use Rattle.geo_text.specs.ObjLines.{joined}
 use Rattle.geo_text.specs.ObjScan.{is_apart}
 use Rattle.geo_text.specs.ObjReferences.{SaysNumber}
-use Rattle.geo_text.proofs.ObjNumbers.{number_here, space_first}
+use Rattle.geo_text.proofs.ObjNumbers.{number_here, first_byte}
 use Rattle.geo_text.proofs.reference.next_number.Goals as goal
 
 pub returns-then-is_apart-clause-number : goal.returns-then-is_apart-clause-number
@@ -13,6 +13,6 @@ returns-then-is_apart-clause-number c =
     let (number, len) = c.leading_number-number.result in
     let behind = take_rest word len in
     subst (λ rest. SaysNumber text number rest) (sym behind)
-    (number_here text word len number (space_first text c.in-32.len_at_least (search rules)) c.if-len-gt0.true c.leading_number-number.ensures.within
+    (number_here text word len number (first_byte text 32 c.in-32.len_at_least (search rules)) c.if-len-gt0.true c.leading_number-number.ensures.within
     c.leading_number-number.ensures.digits c.leading_number-number.ensures.number
     (ap (λ rest. is_apart (joined rest)) (sym behind) ∙ sym c.is_apart.ensures ∙ c.if-is_apart.true))

@@ -1,6 +1,6 @@
 use Rattle.std.proofs.Common.{◌≡◌, length, ap, arith, rules, subst, sym, ◌∙◌}
 use Rattle.std.specs.Prelude.{vec_len}
-use Rattle.sop_model.specs.declared.class.Class.TheVariants.{Prim, Point, Vertex}
+use Rattle.sop_model.specs.declared.class.Class.TheVariants.{Prim}
 use Rattle.sop_model.specs.Geometry.{count_of}
 use Rattle.sop_model.proofs.LimitsLemmas.{within_points, within_prims}
 use Rattle.geo_text.specs.ObjColumns.{columns_geo, AreComplete}

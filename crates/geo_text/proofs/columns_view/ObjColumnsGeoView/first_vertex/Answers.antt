@@ -1,4 +1,4 @@
-use Rattle.std.proofs.Common.{◌≡◌, ◌-◌, ◌<◌, length, get_or, ap, arith, rules, subst, sym, ◌∙◌}
+use Rattle.std.proofs.Common.{◌≡◌, ◌-◌, length, get_or, ap, arith, rules, subst, ◌∙◌}
 use Rattle.std.specs.Prelude.{vec_len}
 use Rattle.sop_model.proofs.VerticesLemmas.{end_before}
 use Rattle.geo_text.specs.ObjColumns.{columns_geo, AreComplete}

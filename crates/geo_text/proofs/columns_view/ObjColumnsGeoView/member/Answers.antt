@@ -1,5 +1,5 @@
 use Rattle.std.proofs.Common.{◌≡◌, ◌<◌, Some, length, get_or, ap, arith, rules, subst, sym, ◌∙◌}
-use Rattle.std.specs.Prelude.{vec_len, unwrap_or, slice_get, false}
+use Rattle.std.specs.Prelude.{vec_len}
 use Rattle.sop_model.specs.declared.class.Class.TheVariants.{Prim}
 use Rattle.sop_model.specs.Geometry.{heads_of, count_of, flag_at}
 use Rattle.geo_text.specs.ObjColumns.{columns_geo, AreComplete}

@@ -1,4 +1,4 @@
-use Rattle.std.proofs.Common.{◌≡◌, length, ap, arith, rules, tests, leb, subst, ◌∙◌}
+use Rattle.std.proofs.Common.{length, ap, arith, rules, tests, leb, subst, ◌∙◌}
 use Rattle.std.proofs.lemmas.List.Sorted.{IsPartitionPoint-from_clause, IsPartitionedBy-leb}
 use Rattle.sop_model.specs.Vertices.{ends_of}
 use Rattle.sop_model.proofs.VerticesLemmas.{length-ends_of, ends_of-rise, prim_in-from_point}

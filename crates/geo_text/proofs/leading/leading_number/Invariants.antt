@@ -1,6 +1,6 @@
 use Rattle.std.proofs.Common.{◌-◌, ◌≡◌, ◌≤◌, ◌<◌, true, length, take}
 use Rattle.sop_fixed.specs.Numerals.{are_digits, number_of}
-use Rattle.geo_text.proofs.reference.leading_number.Given as goal
+use Rattle.geo_text.proofs.leading.leading_number.Given as goal
 
 abbrev pub invariant-loop-number : goal.invariant-loop-number
 invariant-loop-number l = record {

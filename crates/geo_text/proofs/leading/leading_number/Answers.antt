@@ -1,6 +1,6 @@
 use Rattle.std.proofs.Common.{arith, sym, ◌∙◌, ◌+◌, ◌*◌, ap, get_or}
 use Rattle.geo_text.proofs.ObjNumbers.{more_digits, more_number, digit_most}
-use Rattle.geo_text.proofs.reference.leading_number.Goals as goal
+use Rattle.geo_text.proofs.leading.leading_number.Goals as goal
 
 pub loop-number-preserved : goal.loop-number-preserved
 loop-number-preserved c =
